@@ -1,0 +1,5 @@
+pub mod Spelling
+pub mod NameBytes
+pub mod Readers
+pub mod NameList
+pub mod NameRoom

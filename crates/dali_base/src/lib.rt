@@ -1,0 +1,28 @@
+//! Names, moments, numbers and the small lists that every crate above uses.
+//!
+//! The promise to the crates above: a reader gives a value exactly for its one spelling, and a list is seen by
+//! contracts as a plain list. The spellings stand in `specs/Spelling.antt`.
+#![tactic(auto)]
+
+mod kind;
+mod memory;
+mod moment;
+mod name;
+mod names;
+mod number;
+mod seq;
+#[cfg(test)]
+mod tests;
+mod text;
+
+pub use kind::Kind;
+pub use memory::OutOfMemory;
+pub use moment::{Moment, read_moment};
+pub use name::{Name, read_name};
+pub use names::Names;
+pub use number::read_number;
+pub use seq::Seq;
+pub use text::{Places, Text, Words};
+
+/// The greatest edition of the day file's grammar.
+pub const NEWEST: u8 = 4;
