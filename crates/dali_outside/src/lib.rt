@@ -1,0 +1,22 @@
+//! The outside: the traits over which everything above reads its input, writes its disk and prints, and the two
+//! implementations in memory whose every failure is chosen in advance.
+//!
+//! The promise to the crates above: a call fails only where its count of faults rose, a failed call leaves what its
+//! clauses say, and a source or a site in memory fails exactly at the calls that it was told to fail at. What a
+//! source and a site are is defined in `specs/Outside.antt`, what those in memory are in `specs/Memory.antt`.
+#![tactic(auto)]
+
+mod fault;
+mod mem_site;
+mod mem_source;
+mod site;
+mod source;
+
+pub use fault::{Failed, Fault, Faults};
+pub use mem_site::MemSite;
+pub use mem_source::MemSource;
+pub use site::Site;
+pub use source::Source;
+
+#[cfg(test)]
+mod tests;
