@@ -1,0 +1,112 @@
+use Rattle.std.specs.Prelude.{◌≡◌, ℕ, ◌<◌, ◌≤◌, List, [], ◌∷◌, codes, decimal, IsTrue}
+use Rattle.std.specs.List.{join_with_byte}
+use Rattle.dali_base.specs.Spelling.{is_name, DAY, moment_digits}
+use Rattle.dali_base.specs.declared.TheConstants.{NEWEST}
+use Rattle.dali_base.specs.declared.kind.Kind.{Kind}
+use Rattle.dali_base.specs.declared.kind.Kind.TheVariants as kinds
+use Rattle.dali_line.specs.declared.TheConstants.{MOST_QUANTITY, MOST_PRICE, MOST_BUDGET, MOST_RANK}
+use Rattle.dali_line.specs.declared.command.Command.{Command}
+use Rattle.dali_line.specs.declared.command.Verb.{Verb}
+use Rattle.dali_line.specs.declared.command.Verb.TheVariants.{Part, Inst, Issue, Draw, Dvp, Fop, Pay, Cancel, Settle, Cutoff, Cycle, Queue, Close, Stat, Ledger, Earmark, Release, Link, Rank}
+
+-- the word of a kind
+abbrev pub kind_text : Kind → List ℕ
+kind_text kinds.Dvp = codes "DVP"
+kind_text kinds.Fop = codes "FOP"
+kind_text kinds.Pay = codes "PAY"
+
+-- a verb's word and its fields
+abbrev pub pieces_of : Verb → List (List ℕ)
+pieces_of (Part account) = codes "PART" ∷ account ∷ []
+pieces_of (Inst code price) = codes "INST" ∷ code ∷ decimal price ∷ []
+pieces_of (Issue account asset quantity) = codes "ISSUE" ∷ account ∷ asset ∷ decimal quantity ∷ []
+pieces_of (Draw account asset quantity) = codes "DRAW" ∷ account ∷ asset ∷ decimal quantity ∷ []
+pieces_of (Dvp id seller buyer code quantity cash) =
+    codes "DVP" ∷ id ∷ seller ∷ buyer ∷ code ∷ decimal quantity ∷ decimal cash ∷ []
+pieces_of (Fop id from to code quantity) = codes "FOP" ∷ id ∷ from ∷ to ∷ code ∷ decimal quantity ∷ []
+pieces_of (Pay id from to cash) = codes "PAY" ∷ id ∷ from ∷ to ∷ decimal cash ∷ []
+pieces_of (Cancel id) = codes "CANCEL" ∷ id ∷ []
+pieces_of (Settle id) = codes "SETTLE" ∷ id ∷ []
+pieces_of (Cutoff kind moment) = codes "CUTOFF" ∷ kind_text kind ∷ moment_digits moment ∷ []
+pieces_of (Cycle budget) = codes "CYCLE" ∷ decimal budget ∷ []
+pieces_of Queue = codes "QUEUE" ∷ []
+pieces_of Close = codes "CLOSE" ∷ []
+pieces_of (Stat account) = codes "STAT" ∷ account ∷ []
+pieces_of (Ledger account) = codes "LEDGER" ∷ account ∷ []
+pieces_of (Earmark account asset quantity) = codes "EARMARK" ∷ account ∷ asset ∷ decimal quantity ∷ []
+pieces_of (Release account asset quantity) = codes "RELEASE" ∷ account ∷ asset ∷ decimal quantity ∷ []
+pieces_of (Link first second) = codes "LINK" ∷ first ∷ second ∷ []
+pieces_of (Rank id rank) = codes "RANK" ∷ id ∷ decimal rank ∷ []
+
+-- the command line: the moment, the word and the fields, joined by single commas
+abbrev pub spelling : Command → List ℕ
+spelling c = join_with_byte 44 (moment_digits c.moment ∷ pieces_of c.verb)
+
+-- the first edition that has the verb
+abbrev pub first_edition : Verb → ℕ
+first_edition (Earmark account asset quantity) = 2
+first_edition (Release account asset quantity) = 2
+first_edition (Link first second) = 3
+first_edition (Rank id rank) = 4
+first_edition (Part account) = 1
+first_edition (Inst code price) = 1
+first_edition (Issue account asset quantity) = 1
+first_edition (Draw account asset quantity) = 1
+first_edition (Dvp id seller buyer code quantity cash) = 1
+first_edition (Fop id from to code quantity) = 1
+first_edition (Pay id from to cash) = 1
+first_edition (Cancel id) = 1
+first_edition (Settle id) = 1
+first_edition (Cutoff kind moment) = 1
+first_edition (Cycle budget) = 1
+first_edition Queue = 1
+first_edition Close = 1
+first_edition (Stat account) = 1
+first_edition (Ledger account) = 1
+
+-- a number from low to high
+pub record IsWithin (low high n : ℕ) : Type 0 where
+  pub least : low ≤ n
+  pub most : n ≤ high
+
+-- a quantity, or an amount of cash in centavos
+abbrev pub IsQuantity : ℕ → Type 0
+IsQuantity n = IsWithin 1 MOST_QUANTITY n
+
+abbrev pub IsName : List ℕ → Type 0
+IsName name = IsTrue (is_name name)
+
+-- each field of the verb lies in its range
+abbrev pub HasFields : Verb → Type 0
+HasFields (Part account) = IsName account
+HasFields (Inst code price) = IsName code × IsWithin 1 MOST_PRICE price
+HasFields (Issue account asset quantity) = IsName account × IsName asset × IsQuantity quantity
+HasFields (Draw account asset quantity) = IsName account × IsName asset × IsQuantity quantity
+HasFields (Dvp id seller buyer code quantity cash) =
+    IsName id × IsName seller × IsName buyer × IsName code × IsQuantity quantity × IsQuantity cash
+HasFields (Fop id from to code quantity) = IsName id × IsName from × IsName to × IsName code × IsQuantity quantity
+HasFields (Pay id from to cash) = IsName id × IsName from × IsName to × IsQuantity cash
+HasFields (Cancel id) = IsName id
+HasFields (Settle id) = IsName id
+HasFields (Cutoff kind moment) = moment < DAY
+HasFields (Cycle budget) = IsWithin 0 MOST_BUDGET budget
+HasFields Queue = Unit {0}
+HasFields Close = Unit {0}
+HasFields (Stat account) = IsName account
+HasFields (Ledger account) = IsName account
+HasFields (Earmark account asset quantity) = IsName account × IsName asset × IsQuantity quantity
+HasFields (Release account asset quantity) = IsName account × IsName asset × IsQuantity quantity
+HasFields (Link first second) = IsName first × IsName second
+HasFields (Rank id rank) = IsName id × IsWithin 1 MOST_RANK rank
+
+-- a command of the grammar of this edition
+pub record IsCommand (edition : ℕ) (c : Command) : Type 0 where
+  pub moment : c.moment < DAY
+  pub fields : HasFields c.verb
+  pub since : first_edition c.verb ≤ edition
+  pub newest : edition ≤ NEWEST
+
+-- the bytes are the command's spelling in the grammar of this edition
+pub record Spells (edition : ℕ) (bytes : List ℕ) (c : Command) : Type 0 where
+  pub command : IsCommand edition c
+  pub spelled : bytes ≡ spelling c

@@ -1,0 +1,7 @@
+use Rattle.std.specs.Prelude.{ℕ, Bool, not, ◌==◌, ◌&&◌, nat_le, List, length}
+use Rattle.std.specs.List.{list_all}
+use Rattle.dali_line.specs.Commands.{is_command}
+
+-- what a history keeps as a line: a command of at most 200 bytes in one line
+abbrev pub is_line : List ℕ → Bool
+is_line bytes = is_command bytes && nat_le (length bytes) 200 && list_all (λ b. not (b == 10)) bytes

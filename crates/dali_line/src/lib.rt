@@ -1,0 +1,35 @@
+//! The commands of a day file: how its text is cut into commands, and the grammar of a command line.
+//!
+//! The promise to the crates above: the commands of a text are those of `specs/Commands.antt`, and a line is read
+//! as a command exactly where it is that command's one spelling (`specs/Grammar.antt`).
+#![tactic(auto)]
+
+mod command;
+mod cut;
+mod fields;
+mod line;
+mod pieces;
+mod reading;
+mod split;
+#[cfg(test)]
+mod tests;
+mod verbs;
+mod writing;
+
+pub use command::{Command, Verb};
+pub use cut::split_command;
+pub use line::Line;
+pub use reading::read_line;
+pub use writing::write_line;
+
+/// The greatest quantity, and the greatest amount of cash in centavos.
+pub const MOST_QUANTITY: u64 = 1_000_000_000_000_000;
+
+/// The greatest price, in centavos.
+pub const MOST_PRICE: u64 = 1_000_000_000;
+
+/// The greatest budget of a cycle, in branchings.
+pub const MOST_BUDGET: u64 = 4096;
+
+/// The greatest rank.
+pub const MOST_RANK: u64 = 16;
