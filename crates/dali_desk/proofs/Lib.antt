@@ -1,0 +1,3 @@
+pub mod AccountLemmas
+pub mod Printing
+pub mod Filling
