@@ -1,0 +1,36 @@
+use dali_base::{OutOfMemory, Text, Words};
+use std::alloc::Global;
+use std::env::FillError;
+use std::rt::Env;
+
+/// The longest word that is read in the first place; a longer one is read into twice the room.
+const ROOM: usize = 256;
+
+/// The words of the command line behind the program's name.
+pub fn read(rt: &impl Env, alloc: Global) -> Result<Words, OutOfMemory> {
+    let mut words = Words::new(alloc);
+    for place in 1..usize::MAX {
+        match word(rt, alloc, place)? {
+            Some(word) => words.push(word)?,
+            None => break,
+        }
+    }
+    Ok(words)
+}
+
+/// The word at this place, where there is one.
+fn word(rt: &impl Env, alloc: Global, place: usize) -> Result<Option<Text>, OutOfMemory> {
+    let mut room = ROOM;
+    for _ in 0..usize::BITS {
+        let mut buffer = vec![in alloc; 0u8; room]?;
+        match rt.arg(place, &mut buffer) {
+            Ok(len) => {
+                buffer.truncate(len);
+                return Ok(Some(Text::from_vec(buffer)));
+            }
+            Err(FillError::NotPresent) => return Ok(None),
+            Err(FillError::TooLong) => room = room.saturating_mul(2),
+        }
+    }
+    Err(OutOfMemory)
+}
