@@ -1,0 +1,11 @@
+pub mod IntegerLaws
+pub mod SumLaws
+pub mod Laid
+pub mod Lines
+pub mod Values
+pub mod Turned
+pub mod RuleTests
+pub mod Opened
+pub mod Touching
+pub mod SetLaws
+pub mod KeptLaws

@@ -1,0 +1,11 @@
+pub mod Sums
+pub mod Clearing
+pub mod Limits
+pub mod Feasible
+pub mod Partial
+pub mod Rules
+pub mod Rest
+pub mod Layout
+pub mod Kept
+pub mod KeptLayout
+pub mod Touches

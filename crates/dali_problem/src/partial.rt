@@ -1,0 +1,145 @@
+ghost use Rattle.std.specs.Prelude.{◌≡◌, ℕ, ◌<◌, Bool, length, IsTrue, IfOk, slice_set, if◌then◌else◌};
+ghost use Rattle.dali_problem.specs.Clearing.{Clearing};
+ghost use Rattle.dali_problem.specs.Partial.{mark, is_decided};
+ghost use Rattle.dali_problem.specs.Feasible.{ArePlaces};
+ghost use Rattle.dali_problem.specs.Rules.{is_short, is_barred, is_needed, is_safe};
+ghost use Rattle.dali_problem.specs.Kept.{IsOf, AllUndecided};
+
+use crate::line_sum::{
+    LineSum, amount_on, is_short_if_chosen, is_short_if_left, is_short_now, pays_all,
+};
+use crate::mark::Mark;
+use crate::problem::Problem;
+use crate::turn::{open, turn};
+use dali_base::{OutOfMemory, Places};
+use std::alloc::Global;
+use std::marker::Model;
+
+/// A partial choice among the items of a problem, with what each line would have kept beside it, so that a test
+/// costs no more than the effects of its place.
+#[derive(Debug, Drop)]
+pub struct Partial {
+    marks: Vec<Mark>,
+    sums: Vec<LineSum>,
+}
+
+impl Model for Partial {
+    ghost use Rattle.dali_problem.specs.Kept.{Kept};
+
+    ghost Value = { Kept };
+
+    ghost use Rattle.dali_problem.specs.KeptLayout.{kept_of, IsBounded};
+
+    ghost view = { kept_of };
+
+    ghost invariant = { IsBounded };
+}
+
+impl Partial {
+    /// The members of a problem, all undecided.
+    pub fn new(alloc: Global, problem: &Problem, members: &Places) -> Result<Partial, OutOfMemory>
+        requires { ArePlaces problem.now members.now }
+        ensures of { IfOk result (λ partial. IsOf problem.now partial) }
+        ensures undecided { IfOk result (λ partial. AllUndecided partial.marks members.now) }
+    {
+        let mut marks = vec![in alloc; Mark::Stranger; problem.items() as usize]?;
+        let mut sums = vec![in alloc; LineSum::EMPTY; problem.lines() as usize]?;
+        open(
+            problem,
+            members.as_slice(),
+            marks.as_mut_slice(),
+            sums.as_mut_slice(),
+        );
+        Ok(Partial { marks, sums })
+    }
+
+    /// Decides an undecided place. No other place changes.
+    pub fn fix(&mut self, problem: &Problem, place: u32, chosen: bool)
+        requires of { IsOf problem.now self.old }
+        requires undecided { mark self.old.marks place ≡ Mark.Undecided }
+        ensures marks { self.new.marks ≡ slice_set self.old.marks place (if chosen then Mark.Chosen else Mark.Left) }
+        ensures of { IsOf problem.now self.new }
+    {
+        let to = if chosen { Mark::Chosen } else { Mark::Left };
+        turn(
+            problem,
+            self.marks.as_mut_slice(),
+            self.sums.as_mut_slice(),
+            place,
+            to,
+        );
+    }
+
+    /// Makes a decided place undecided again. No other place changes.
+    pub fn free(&mut self, problem: &Problem, place: u32)
+        requires of { IsOf problem.now self.old }
+        requires decided { IsTrue (is_decided (mark self.old.marks place)) }
+        ensures marks { self.new.marks ≡ slice_set self.old.marks place Mark.Undecided }
+        ensures of { IsOf problem.now self.new }
+    {
+        turn(
+            problem,
+            self.marks.as_mut_slice(),
+            self.sums.as_mut_slice(),
+            place,
+            Mark::Undecided,
+        );
+    }
+
+    /// What is said of a place.
+    pub fn mark(&self, place: u32) -> Mark
+        requires { place < length self.now.marks }
+        ensures { result ≡ mark self.now.marks place }
+    {
+        self.marks[place as usize]
+    }
+
+    /// Whether the line is negative whatever is chosen among the undecided.
+    pub fn is_short(&self, line: u32) -> bool
+        requires { line < length self.now.sums }
+        ensures { (p : Clearing) → IsOf p self.now → result ≡ is_short p self.now.marks line }
+    {
+        is_short_now(&self.sums[line as usize])
+    }
+
+    /// Whether an undecided place can't be chosen: the line would be short. False where it isn't undecided.
+    pub fn is_barred(&self, problem: &Problem, place: u32, line: u32) -> bool
+        requires of { IsOf problem.now self.now }
+        requires place { place < length problem.now.items }
+        requires line { line < length problem.now.lines }
+        ensures { result ≡ is_barred problem.now self.now.marks place line }
+    {
+        if !self.marks[place as usize].is_undecided() {
+            return false;
+        }
+        let amount = amount_on(problem.effects(place), line);
+        is_short_if_chosen(&self.sums[line as usize], &amount)
+    }
+
+    /// Whether an undecided place can't be left: the line would be short. False where it isn't undecided.
+    pub fn is_needed(&self, problem: &Problem, place: u32, line: u32) -> bool
+        requires of { IsOf problem.now self.now }
+        requires place { place < length problem.now.items }
+        requires line { line < length problem.now.lines }
+        ensures { result ≡ is_needed problem.now self.now.marks place line }
+    {
+        if !self.marks[place as usize].is_undecided() {
+            return false;
+        }
+        let amount = amount_on(problem.effects(place), line);
+        is_short_if_left(&self.sums[line as usize], &amount)
+    }
+
+    /// Whether each line that an undecided place debits pays all that undecided places may take from it. False where
+    /// the place isn't undecided.
+    pub fn is_safe(&self, problem: &Problem, place: u32) -> bool
+        requires of { IsOf problem.now self.now }
+        requires place { place < length problem.now.items }
+        ensures { result ≡ is_safe problem.now self.now.marks place }
+    {
+        if !self.marks[place as usize].is_undecided() {
+            return false;
+        }
+        pays_all(self.sums.as_slice(), problem.effects(place))
+    }
+}
