@@ -1,0 +1,22 @@
+use Rattle.std.specs.Prelude.{ℕ, ℤ, pos, ◌+ℤ◌, ◌*ℤ◌, List, length}
+use Rattle.std.specs.Int.{int_max}
+use Rattle.dali_problem.specs.declared.mark.Mark.{Mark}
+use Rattle.dali_problem.specs.Sums.{sum_below, pick}
+use Rattle.dali_problem.specs.Clearing.{Clearing, worth, effect}
+use Rattle.dali_problem.specs.Partial.{mark, is_chosen, is_undecided, held}
+
+-- the value of place j on the scale of 4,096, with what its effects are worth at these multipliers
+abbrev pub reduced : Clearing → (ℕ → ℕ) → ℕ → ℤ
+reduced p lam j = pos 4096 *ℤ pos (worth p j) +ℤ sum_below (λ l. pos (lam l) *ℤ effect p j l) (length p.lines)
+
+-- the values of the chosen on the scale, what each line holds times its multiplier, and each undecided reduced value
+-- above 0
+unfoldable pub sum_of : Clearing → List Mark → (ℕ → ℕ) → ℤ
+sum_of p f lam =
+    pos 4096 *ℤ sum_below (λ j. pick (is_chosen (mark f j)) (pos (worth p j))) (length p.items)
+    +ℤ sum_below (λ l. pos (lam l) *ℤ held p f l) (length p.lines)
+    +ℤ sum_below (λ j. pick (is_undecided (mark f j)) (int_max (pos 0) (reduced p lam j))) (length p.items)
+
+-- what a place with this mark and this reduced value counts, where each line counts its balance alone
+abbrev pub counted : Mark → ℤ → ℤ
+counted m z = pick (is_chosen m) z +ℤ pick (is_undecided m) (int_max (pos 0) z)

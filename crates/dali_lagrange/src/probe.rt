@@ -1,0 +1,61 @@
+ghost use Rattle.std.specs.Prelude.{◌≡◌, ◌^◌, ◌<◌, ◌≤◌, length, slice_index, slice_set};
+
+use crate::point::Point;
+use std::marker::Model;
+
+/// A point as it is, or with the multiplier of one line changed.
+#[derive(Drop)]
+pub(crate) struct Probe<'a> {
+    point: &'a Point,
+    // The line that is changed; past the last one where none is.
+    line: usize,
+    to: u64,
+}
+
+impl<'a> Model for Probe<'a> {
+    ghost use Rattle.std.specs.Prelude.{List, ℕ, ◌≤◌, ◌^◌, slice_set};
+
+    ghost Value = { List ℕ };
+
+    ghost view = { λ s. slice_set s.point.now s.line s.to };
+
+    ghost invariant = { λ s. s.to ≤ 2 ^ 44 };
+}
+
+impl<'a> Probe<'a> {
+    /// The point as it is.
+    pub(crate) fn of(point: &'a Point) -> Probe<'a>
+        ensures { result ≡ point.now }
+    {
+        Probe {
+            point,
+            line: point.len(),
+            to: 0,
+        }
+    }
+
+    /// The point with this multiplier on this line.
+    pub(crate) fn with(point: &'a Point, line: u32, to: u64) -> Probe<'a>
+        requires { to ≤ 2 ^ 44 }
+        ensures { result ≡ slice_set point.now line to }
+    {
+        Probe {
+            point,
+            line: line as usize,
+            to,
+        }
+    }
+
+    /// The multiplier of a line.
+    pub(crate) fn get(&self, line: u32) -> u64
+        requires { line < length self.now }
+        ensures value { result ≡ slice_index self.now line }
+        ensures bounded { result ≤ 2 ^ 44 }
+    {
+        if line as usize == self.line {
+            self.to
+        } else {
+            self.point.get(line)
+        }
+    }
+}
