@@ -1,0 +1,128 @@
+use Rattle.std.proofs.Common.{◌≡◌, ℕ, ◌+◌, ◌≤◌, Bool, true, false, cond, ◌&&◌, List, [], ◌∷◌, ◌++◌, length, None, refl, sym, ap, ◌∙◌, subst, arith, true≢false}
+use Rattle.std.proofs.lemmas.List.{length-append}
+use Rattle.std.proofs.lemmas.List.Folds.{list_any-append}
+use Rattle.std.proofs.lemmas.List.Sums.{sum_by_push}
+use Rattle.std.proofs.lemmas.Map.Keys.{IsDistinct-push}
+use Rattle.std.specs.Cmp.Lexicographic.{nat_list_eq_equiv}
+use Rattle.std.specs.FinMap as map
+use Rattle.std.specs.List.{IsDistinct}
+use Rattle.std.specs.Prelude.{unwrap_or}
+use Rattle.dali_base.specs.NameList.{NameList, with_name}
+use Rattle.dali_account.proofs.AssetLemmas.{length-prices}
+use Rattle.dali_account.specs.Units.{Pair, Units, pair_cmp, units_of, with_units}
+use Rattle.dali_account.specs.Book.{same_name, cash, has_account, held}
+use Rattle.dali_account.specs.Refusals.{MOST, LIMIT}
+use Rattle.dali_account.specs.AssetList.{AssetList, prices, total_at}
+use Rattle.dali_account.specs.BookKept.{IsBalanced}
+use Rattle.dali_account.proofs.UnitsLemmas.{same_pair}
+use Rattle.dali_account.proofs.SumLemmas.{same_name_is, first_false, held_moved, held_other, units_other, term_le_sum}
+
+-- a name that isn't there is another name than one that is
+pub other_name : (accounts : List (List ℕ)) (a b : List ℕ) → has_account accounts a ≡ true → has_account accounts b ≡ false → same_name b a ≡ false
+other_name accounts a b there absent = by (same_name b a) refl
+  where
+    by : (t : Bool) → same_name b a ≡ t → t ≡ false
+    by false e = refl
+    by true e = absurd (true≢false (sym there ∙ ap (has_account accounts) (sym (same_name_is b a e)) ∙ absent))
+
+-- new numbers at a pair, with a total that changes as they do, keep the book balanced
+module _ (accounts : List (List ℕ)) (old new : AssetList) (balances earmarks : Units) (account asset : List ℕ) (balance earmark total : ℕ)
+    (kept : IsBalanced accounts old balances earmarks) (there : has_account accounts account ≡ true)
+    (priced : prices new.listings ≡ prices old.listings)
+    (set : (q : List ℕ) → total_at new q ≡ cond (same_name q asset) total (total_at old q))
+    (moved : balance + earmark + held accounts balances earmarks asset ≡ units_of balances (account, asset) + units_of earmarks (account, asset) + total)
+    (limited : total ≤ LIMIT) where
+  sum_is : held accounts (with_units balances (account, asset) balance) (with_units earmarks (account, asset) earmark) asset ≡ total
+  sum_is =
+      let sums = held_moved accounts balances earmarks account asset balance earmark total (held accounts balances earmarks asset) moved kept.distinct there in
+      omega (arith, sums)
+
+  totals_kept : (q : List ℕ) → total_at new q ≡ held accounts (with_units balances (account, asset) balance) (with_units earmarks (account, asset) earmark) q
+  totals_kept q = by (same_name q asset) refl
+    where
+      by : (b : Bool) → same_name q asset ≡ b → total_at new q ≡ held accounts (with_units balances (account, asset) balance) (with_units earmarks (account, asset) earmark) q
+      by true e = set q ∙ ap (λ t. cond t total (total_at old q)) e ∙ sym sum_is
+          ∙ ap (held accounts (with_units balances (account, asset) balance) (with_units earmarks (account, asset) earmark)) (sym (same_name_is q asset e))
+      by false e = set q ∙ ap (λ t. cond t total (total_at old q)) e ∙ kept.totals q ∙ sym (held_other accounts balances earmarks account asset balance earmark q e)
+
+  limit_kept : (q : List ℕ) → total_at new q ≤ LIMIT
+  limit_kept q = let P : ℕ → Type 0 = λ n. n ≤ LIMIT in subst P (sym (set q)) (by (same_name q asset))
+    where
+      by : (b : Bool) → cond b total (total_at old q) ≤ LIMIT
+      by true = limited
+      by false = kept.limit q
+
+  known_kept : (a q : List ℕ) → has_account accounts a ≡ false → units_of (with_units balances (account, asset) balance) (a, q) + units_of (with_units earmarks (account, asset) earmark) (a, q) ≡ 0
+  known_kept a q absent =
+      let apart : same_pair (a, q) (account, asset) ≡ false = ap (λ t. t && same_name q asset) (other_name accounts account a there absent) in
+      let one : units_of (with_units balances (account, asset) balance) (a, q) ≡ units_of balances (a, q) = units_other balances (account, asset) balance (a, q) apart in
+      let two : units_of (with_units earmarks (account, asset) earmark) (a, q) ≡ units_of earmarks (a, q) = units_other earmarks (account, asset) earmark (a, q) apart in
+      let zero_before = kept.known a q absent in
+      omega (arith, one, two, zero_before)
+
+  length_kept : length new.listings ≤ MOST
+  length_kept =
+      let same : length (prices new.listings) ≡ length (prices old.listings) = ap length priced in
+      let fit = kept.codes_fit in
+      omega (arith, same, length-prices new.listings, length-prices old.listings, fit)
+
+  pub kept_moved : IsBalanced accounts new (with_units balances (account, asset) balance) (with_units earmarks (account, asset) earmark)
+  kept_moved = record {
+    distinct = kept.distinct;
+    accounts_fit = kept.accounts_fit;
+    codes_fit = length_kept;
+    totals = totals_kept;
+    limit = limit_kept;
+    known = known_kept;
+  }
+
+-- an account more keeps the book balanced
+pub kept_account : (names : NameList) (assets : AssetList) (balances earmarks : Units) (account : List ℕ) → IsBalanced names.names assets balances earmarks → length names.names + 1 ≤ MOST →
+    IsBalanced (with_name names account).names assets balances earmarks
+kept_account names assets balances earmarks account kept fit = by (has_account names.names account) refl
+  where
+    by : (b : Bool) → has_account names.names account ≡ b → IsBalanced (cond b names (record { names = names.names ++ account ∷ []; readied = None })).names assets balances earmarks
+    by true told = kept
+    by false told = record {
+      distinct = IsDistinct-push nat_list_eq_equiv names.names account kept.distinct told;
+      accounts_fit = omega (arith, length-append names.names (account ∷ []), fit);
+      codes_fit = kept.codes_fit;
+      totals = λ q.
+          let pushed = sum_by_push (λ x. units_of balances (x, q) + units_of earmarks (x, q)) names.names account in
+          let none = kept.known account q told in
+          let before = kept.totals q in
+          omega (arith, pushed, none, before);
+      limit = kept.limit;
+      known = λ a q absent. kept.known a q (first_false (has_account names.names a) (has_account (account ∷ []) a) (sym (list_any-append (same_name a) names.names (account ∷ [])) ∙ absent));
+    }
+
+distinct_none : IsDistinct same_name []
+unfolding IsDistinct
+distinct_none = tt
+
+totals_none : (b : Bool) → ◌≡◌ {A = ℕ} (cond b 0 0) 0
+totals_none true = refl
+totals_none false = refl
+
+no_units : (q : Pair) → units_of map.empty q ≡ 0
+no_units q = ap (λ o. unwrap_or o 0) (map.get-empty pair_cmp q)
+
+-- a book without accounts, codes and units is balanced
+pub kept_new : IsBalanced [] (record { listings = []; cash_total = 0; readied = None }) map.empty map.empty
+kept_new = record {
+  distinct = distinct_none;
+  accounts_fit = omega arith;
+  codes_fit = omega arith;
+  totals = λ q. totals_none (same_name q cash);
+  limit = λ q. let P : ℕ → Type 0 = λ n. n ≤ LIMIT in subst P (sym (totals_none (same_name q cash))) (omega arith);
+  known = λ a q absent. let none = no_units (a, q) in omega (arith, none);
+}
+
+-- a pair's numbers together are at most the asset's total
+pub units_le_held : (accounts : List (List ℕ)) (assets : AssetList) (balances earmarks : Units) (account asset : List ℕ) → IsBalanced accounts assets balances earmarks →
+    units_of balances (account, asset) + units_of earmarks (account, asset) ≤ held accounts balances earmarks asset
+units_le_held accounts assets balances earmarks account asset kept = by (has_account accounts account) refl
+  where
+    by : (b : Bool) → has_account accounts account ≡ b → units_of balances (account, asset) + units_of earmarks (account, asset) ≤ held accounts balances earmarks asset
+    by true told = term_le_sum (λ x. units_of balances (x, asset) + units_of earmarks (x, asset)) account accounts told
+    by false told = let none = kept.known account asset told in omega (arith, none)
