@@ -1,0 +1,4 @@
+pub mod SumLemmas
+pub mod KeptLemmas
+pub mod NetLemmas
+pub mod LastLemmas

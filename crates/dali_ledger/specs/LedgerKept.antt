@@ -1,0 +1,23 @@
+use Rattle.std.specs.Prelude.{◌≡◌, ℕ, ◌-◌, pos, List, min, unwrap_or, ◌&&◌, vec_len, vec_capacity}
+use Rattle.std.specs.Map.{lookup}
+use Rattle.indexmap.specs.IndexMap.{spare}
+use Rattle.dali_account.specs.Book.{same_name}
+use Rattle.dali_account.specs.Units.{Pair}
+use Rattle.dali_ledger.specs.Postings.{IsLedger, delta_sum}
+use Rattle.dali_ledger.specs.Ledger.{LedgerState}
+use Rattle.dali_ledger.specs.declared.ledger.Ledger.TheInside.{Inside}
+
+abbrev pub state_of : Inside → LedgerState
+state_of a = record {
+  postings = a.postings.items;
+  spare = min (vec_capacity a.postings - vec_len a.postings) (spare a.sums);
+}
+
+-- the number beside the pair, 0 where there is none
+abbrev pub sum_in : List (Pair × ℕ) → Pair → ℕ
+sum_in sums pair = unwrap_or (lookup (λ q. same_name pair.0 q.0 && same_name pair.1 q.1) sums) 0
+
+-- beside each pair stands the sum of its deltas
+pub record IsKept (a : Inside) : Type 0 where
+  pub ledger : IsLedger a.postings.items
+  pub sums : (pair : Pair) → pos (sum_in a.sums.entries pair) ≡ delta_sum a.postings.items pair

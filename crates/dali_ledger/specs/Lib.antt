@@ -1,0 +1,3 @@
+pub mod Postings
+pub mod Ledger
+pub mod LedgerKept
