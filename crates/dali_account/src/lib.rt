@@ -1,8 +1,8 @@
 //! The book of accounts, codes, balances and earmarks.
 //!
-//! The promise to the crates above: a [`Book`] is two lists and two finite maps (`specs/Book.antt`). The total of each
-//! asset is kept but by `issue` and `draw`, each balance is from 0 to its asset's total, and each total is at most
-//! 10^18. A refusal leaves the book as it was.
+//! The promise to the crates above: a [`Book`] is two lists and two finite maps (`specs/Book.antt`), and each call
+//! changes it by exactly one equation. Each balance and each earmark is from 0 to its asset's total, and each total is
+//! at most 10^18. A refusal leaves the book as it was.
 #![tactic(auto)]
 
 mod assets;

@@ -15,28 +15,53 @@ kind_text kinds.Dvp = codes "DVP"
 kind_text kinds.Fop = codes "FOP"
 kind_text kinds.Pay = codes "PAY"
 
+-- a verb's word
+abbrev pub word_of : Verb → List ℕ
+word_of (Part account) = codes "PART"
+word_of (Inst code price) = codes "INST"
+word_of (Issue account asset quantity) = codes "ISSUE"
+word_of (Draw account asset quantity) = codes "DRAW"
+word_of (Dvp id seller buyer code quantity cash) = codes "DVP"
+word_of (Fop id from to code quantity) = codes "FOP"
+word_of (Pay id from to cash) = codes "PAY"
+word_of (Cancel id) = codes "CANCEL"
+word_of (Settle id) = codes "SETTLE"
+word_of (Cutoff kind moment) = codes "CUTOFF"
+word_of (Cycle budget) = codes "CYCLE"
+word_of Queue = codes "QUEUE"
+word_of Close = codes "CLOSE"
+word_of (Stat account) = codes "STAT"
+word_of (Ledger account) = codes "LEDGER"
+word_of (Earmark account asset quantity) = codes "EARMARK"
+word_of (Release account asset quantity) = codes "RELEASE"
+word_of (Link first second) = codes "LINK"
+word_of (Rank id rank) = codes "RANK"
+
+-- a verb's fields
+abbrev pub fields_of : Verb → List (List ℕ)
+fields_of (Part account) = account ∷ []
+fields_of (Inst code price) = code ∷ decimal price ∷ []
+fields_of (Issue account asset quantity) = account ∷ asset ∷ decimal quantity ∷ []
+fields_of (Draw account asset quantity) = account ∷ asset ∷ decimal quantity ∷ []
+fields_of (Dvp id seller buyer code quantity cash) = id ∷ seller ∷ buyer ∷ code ∷ decimal quantity ∷ decimal cash ∷ []
+fields_of (Fop id from to code quantity) = id ∷ from ∷ to ∷ code ∷ decimal quantity ∷ []
+fields_of (Pay id from to cash) = id ∷ from ∷ to ∷ decimal cash ∷ []
+fields_of (Cancel id) = id ∷ []
+fields_of (Settle id) = id ∷ []
+fields_of (Cutoff kind moment) = kind_text kind ∷ moment_digits moment ∷ []
+fields_of (Cycle budget) = decimal budget ∷ []
+fields_of Queue = []
+fields_of Close = []
+fields_of (Stat account) = account ∷ []
+fields_of (Ledger account) = account ∷ []
+fields_of (Earmark account asset quantity) = account ∷ asset ∷ decimal quantity ∷ []
+fields_of (Release account asset quantity) = account ∷ asset ∷ decimal quantity ∷ []
+fields_of (Link first second) = first ∷ second ∷ []
+fields_of (Rank id rank) = id ∷ decimal rank ∷ []
+
 -- a verb's word and its fields
 abbrev pub pieces_of : Verb → List (List ℕ)
-pieces_of (Part account) = codes "PART" ∷ account ∷ []
-pieces_of (Inst code price) = codes "INST" ∷ code ∷ decimal price ∷ []
-pieces_of (Issue account asset quantity) = codes "ISSUE" ∷ account ∷ asset ∷ decimal quantity ∷ []
-pieces_of (Draw account asset quantity) = codes "DRAW" ∷ account ∷ asset ∷ decimal quantity ∷ []
-pieces_of (Dvp id seller buyer code quantity cash) =
-    codes "DVP" ∷ id ∷ seller ∷ buyer ∷ code ∷ decimal quantity ∷ decimal cash ∷ []
-pieces_of (Fop id from to code quantity) = codes "FOP" ∷ id ∷ from ∷ to ∷ code ∷ decimal quantity ∷ []
-pieces_of (Pay id from to cash) = codes "PAY" ∷ id ∷ from ∷ to ∷ decimal cash ∷ []
-pieces_of (Cancel id) = codes "CANCEL" ∷ id ∷ []
-pieces_of (Settle id) = codes "SETTLE" ∷ id ∷ []
-pieces_of (Cutoff kind moment) = codes "CUTOFF" ∷ kind_text kind ∷ moment_digits moment ∷ []
-pieces_of (Cycle budget) = codes "CYCLE" ∷ decimal budget ∷ []
-pieces_of Queue = codes "QUEUE" ∷ []
-pieces_of Close = codes "CLOSE" ∷ []
-pieces_of (Stat account) = codes "STAT" ∷ account ∷ []
-pieces_of (Ledger account) = codes "LEDGER" ∷ account ∷ []
-pieces_of (Earmark account asset quantity) = codes "EARMARK" ∷ account ∷ asset ∷ decimal quantity ∷ []
-pieces_of (Release account asset quantity) = codes "RELEASE" ∷ account ∷ asset ∷ decimal quantity ∷ []
-pieces_of (Link first second) = codes "LINK" ∷ first ∷ second ∷ []
-pieces_of (Rank id rank) = codes "RANK" ∷ id ∷ decimal rank ∷ []
+pieces_of verb = word_of verb ∷ fields_of verb
 
 -- the command line: the moment, the word and the fields, joined by single commas
 abbrev pub spelling : Command → List ℕ

@@ -1,7 +1,7 @@
 ghost use Rattle.std.specs.Prelude.{◌≡◌, ◌<◌, ◌++◌, ◌∷◌, [], IsTrue, OnOk, IfOk, decimal};
 ghost use Rattle.dali_base.specs.Spelling.{DAY, moment_digits};
 ghost use Rattle.dali_line.specs.Line.{is_line};
-ghost use Rattle.dali_line.specs.Grammar.{IsName, HasFields, kind_text, pieces_of, spelling};
+ghost use Rattle.dali_line.specs.Grammar.{IsName, HasFields, kind_text, word_of, fields_of, pieces_of, spelling};
 ghost use Rattle.dali_line.specs.Writing.{after_commas, HasNumbers};
 
 use crate::command::{Command, Verb};
@@ -26,19 +26,70 @@ fn add_verb(text: &mut Text, verb: &Verb) -> Result<(), OutOfMemory>
     ensures added { OnOk result (text.new ≡ text.old ++ after_commas (pieces_of verb.now)) }
     ensures fields { OnOk result (HasFields verb.now) }
 {
+    add_piece(text, word(verb))?;
+    add_fields(text, verb)
+}
+
+/// The verb's word.
+fn word(verb: &Verb) -> &'static [u8]
+    ensures { result.now ≡ word_of verb.now }
+{
     match verb {
-        Verb::Part { account } => add_named(text, b"PART", account),
-        Verb::Inst { code, price } => add_priced(text, code, *price),
+        Verb::Part { .. } => b"PART",
+        Verb::Inst { .. } => b"INST",
+        Verb::Issue { .. } => b"ISSUE",
+        Verb::Draw { .. } => b"DRAW",
+        Verb::Dvp { .. } => b"DVP",
+        Verb::Fop { .. } => b"FOP",
+        Verb::Pay { .. } => b"PAY",
+        Verb::Cancel { .. } => b"CANCEL",
+        Verb::Settle { .. } => b"SETTLE",
+        Verb::Cutoff { .. } => b"CUTOFF",
+        Verb::Cycle { .. } => b"CYCLE",
+        Verb::Queue => b"QUEUE",
+        Verb::Close => b"CLOSE",
+        Verb::Stat { .. } => b"STAT",
+        Verb::Ledger { .. } => b"LEDGER",
+        Verb::Earmark { .. } => b"EARMARK",
+        Verb::Release { .. } => b"RELEASE",
+        Verb::Link { .. } => b"LINK",
+        Verb::Rank { .. } => b"RANK",
+    }
+}
+
+/// Adds the verb's fields.
+fn add_fields(text: &mut Text, verb: &Verb) -> Result<(), OutOfMemory>
+    requires { HasNumbers verb.now }
+    ensures added { OnOk result (text.new ≡ text.old ++ after_commas (fields_of verb.now)) }
+    ensures fields { OnOk result (HasFields verb.now) }
+{
+    match verb {
+        Verb::Queue | Verb::Close => Ok(()),
+        Verb::Part { account: name }
+        | Verb::Stat { account: name }
+        | Verb::Ledger { account: name }
+        | Verb::Cancel { id: name }
+        | Verb::Settle { id: name } => add_name(text, name),
         Verb::Issue {
             account,
             asset,
             quantity,
-        } => add_holding(text, b"ISSUE", account, asset, *quantity),
-        Verb::Draw {
+        }
+        | Verb::Draw {
             account,
             asset,
             quantity,
-        } => add_holding(text, b"DRAW", account, asset, *quantity),
+        }
+        | Verb::Earmark {
+            account,
+            asset,
+            quantity,
+        }
+        | Verb::Release {
+            account,
+            asset,
+            quantity,
+        } => add_holding(text, account, asset, *quantity),
         Verb::Dvp {
             id,
             seller,
@@ -47,7 +98,7 @@ fn add_verb(text: &mut Text, verb: &Verb) -> Result<(), OutOfMemory>
             quantity,
             cash,
         } => {
-            add_parties(text, b"DVP", id, seller, buyer)?;
+            add_parties(text, id, seller, buyer)?;
             add_name(text, code)?;
             add_number(text, *quantity)?;
             add_number(text, *cash)
@@ -59,43 +110,19 @@ fn add_verb(text: &mut Text, verb: &Verb) -> Result<(), OutOfMemory>
             code,
             quantity,
         } => {
-            add_parties(text, b"FOP", id, from, to)?;
+            add_parties(text, id, from, to)?;
             add_name(text, code)?;
             add_number(text, *quantity)
         }
         Verb::Pay { id, from, to, cash } => {
-            add_parties(text, b"PAY", id, from, to)?;
+            add_parties(text, id, from, to)?;
             add_number(text, *cash)
         }
-        Verb::Cancel { id } => add_named(text, b"CANCEL", id),
-        Verb::Settle { id } => add_named(text, b"SETTLE", id),
+        Verb::Inst { code, price } => add_numbered(text, code, *price),
+        Verb::Rank { id, rank } => add_numbered(text, id, u64::from(*rank)),
+        Verb::Link { first, second } => add_names(text, first, second),
+        Verb::Cycle { budget } => add_number(text, *budget),
         Verb::Cutoff { kind, moment } => add_cutoff(text, *kind, moment),
-        Verb::Cycle { budget } => {
-            add_piece(text, b"CYCLE")?;
-            add_number(text, *budget)
-        }
-        Verb::Queue => add_piece(text, b"QUEUE"),
-        Verb::Close => add_piece(text, b"CLOSE"),
-        Verb::Stat { account } => add_named(text, b"STAT", account),
-        Verb::Ledger { account } => add_named(text, b"LEDGER", account),
-        Verb::Earmark {
-            account,
-            asset,
-            quantity,
-        } => add_holding(text, b"EARMARK", account, asset, *quantity),
-        Verb::Release {
-            account,
-            asset,
-            quantity,
-        } => add_holding(text, b"RELEASE", account, asset, *quantity),
-        Verb::Link { first, second } => {
-            add_named(text, b"LINK", first)?;
-            add_name(text, second)
-        }
-        Verb::Rank { id, rank } => {
-            add_named(text, b"RANK", id)?;
-            add_number(text, u64::from(*rank))
-        }
     }
 }
 
@@ -120,65 +147,56 @@ fn add_name(text: &mut Text, name: &Name) -> Result<(), OutOfMemory>
     add_piece(text, name.bytes())
 }
 
-/// A word and a name.
-fn add_named(text: &mut Text, word: &[u8], name: &Name) -> Result<(), OutOfMemory>
-    ensures added { OnOk result (text.new ≡ text.old ++ after_commas (word.now ∷ name.now ∷ [])) }
+/// Two names.
+fn add_names(text: &mut Text, first: &Name, second: &Name) -> Result<(), OutOfMemory>
+    ensures added { OnOk result (text.new ≡ text.old ++ after_commas (first.now ∷ second.now ∷ [])) }
+    ensures first { OnOk result (IsName first.now) }
+    ensures second { OnOk result (IsName second.now) }
+{
+    add_name(text, first)?;
+    add_name(text, second)
+}
+
+/// A name and a number.
+fn add_numbered(text: &mut Text, name: &Name, number: u64) -> Result<(), OutOfMemory>
+    ensures added { OnOk result (text.new ≡ text.old ++ after_commas (name.now ∷ decimal number ∷ [])) }
     ensures name { OnOk result (IsName name.now) }
 {
-    add_piece(text, word)?;
-    add_name(text, name)
+    add_name(text, name)?;
+    add_number(text, number)
 }
 
-/// A new code with its price.
-fn add_priced(text: &mut Text, code: &Name, price: u64) -> Result<(), OutOfMemory>
-    ensures added { OnOk result (text.new ≡ text.old ++ after_commas (pieces_of (Verb.Inst code.now price))) }
-    ensures name { OnOk result (IsName code.now) }
-{
-    add_named(text, b"INST", code)?;
-    add_number(text, price)
-}
-
-/// A word with an account, an asset and a quantity.
+/// An account, an asset and a quantity.
 fn add_holding(
     text: &mut Text,
-    word: &[u8],
     account: &Name,
     asset: &Name,
     quantity: u64,
 ) -> Result<(), OutOfMemory>
-    ensures added { OnOk result (text.new ≡ text.old ++ after_commas (word.now ∷ account.now ∷ asset.now ∷ decimal quantity ∷ [])) }
+    ensures added { OnOk result (text.new ≡ text.old ++ after_commas (account.now ∷ asset.now ∷ decimal quantity ∷ [])) }
     ensures account { OnOk result (IsName account.now) }
     ensures asset { OnOk result (IsName asset.now) }
 {
-    add_named(text, word, account)?;
-    add_name(text, asset)?;
+    add_names(text, account, asset)?;
     add_number(text, quantity)
 }
 
-/// A word with an instruction's id and its two accounts.
-fn add_parties(
-    text: &mut Text,
-    word: &[u8],
-    id: &Name,
-    giver: &Name,
-    taker: &Name,
-) -> Result<(), OutOfMemory>
-    ensures added { OnOk result (text.new ≡ text.old ++ after_commas (word.now ∷ id.now ∷ giver.now ∷ taker.now ∷ [])) }
+/// An instruction's id and its two accounts.
+fn add_parties(text: &mut Text, id: &Name, giver: &Name, taker: &Name) -> Result<(), OutOfMemory>
+    ensures added { OnOk result (text.new ≡ text.old ++ after_commas (id.now ∷ giver.now ∷ taker.now ∷ [])) }
     ensures id { OnOk result (IsName id.now) }
     ensures giver { OnOk result (IsName giver.now) }
     ensures taker { OnOk result (IsName taker.now) }
 {
-    add_named(text, word, id)?;
-    add_name(text, giver)?;
-    add_name(text, taker)
+    add_name(text, id)?;
+    add_names(text, giver, taker)
 }
 
 /// The cut-off of a kind.
 fn add_cutoff(text: &mut Text, kind: Kind, moment: &Moment) -> Result<(), OutOfMemory>
-    ensures added { OnOk result (text.new ≡ text.old ++ after_commas (pieces_of (Verb.Cutoff kind moment.now))) }
+    ensures added { OnOk result (text.new ≡ text.old ++ after_commas (kind_text kind ∷ moment_digits moment.now ∷ [])) }
     ensures moment { OnOk result (moment.now < DAY) }
 {
-    add_piece(text, b"CUTOFF")?;
     add_piece(text, kind_bytes(kind))?;
     add_piece(text, &moment.digits())
 }
