@@ -1,10 +1,10 @@
-use Rattle.std.proofs.Common.{◌≡◌, ◌≢◌, ◌∙◌, ℕ, ◌+◌, ◌<◌, ◌≤◌, Bool, true, false, cond, ltb, eqb, suc, not, Option, Some, None, List, [], ◌∷◌, ◌++◌, length, take, drop, get_or, refl, sym, ap, subst, arith}
+use Rattle.std.proofs.Common.{◌≡◌, ◌∙◌, ℕ, ◌+◌, ◌<◌, ◌≤◌, Bool, true, false, cond, ltb, eqb, suc, Some, None, List, [], ◌∷◌, length, take, drop, refl, ap, arith}
 use Rattle.std.proofs.lemmas.Bool.{ltb-true}
 use Rattle.std.proofs.lemmas.Bool.Decides.{nat_tests}
 use Rattle.std.proofs.lemmas.List.Elements.{All-from_get_or}
 use Rattle.std.proofs.lemmas.List.Sums.{fails_before_first}
 use Rattle.std.proofs.lemmas.List.Splits.{slice_split_first, slice_split_none, length-slice_split}
-use Rattle.std.specs.List.{slice_split, position, position_or_len, before_first, after_first, All}
+use Rattle.std.specs.List.{slice_split, position, position_or_len}
 use Rattle.std.specs.Prelude.{filter}
 use Rattle.std.specs.Str.Lines.{lines, lines_of_parts, strip_carriage_return}
 use Rattle.dali_base.proofs.Spelled.{chosen}
@@ -17,7 +17,7 @@ split_some p xs i found =
     let within : position_or_len p xs < length xs = ltb-true _ _ parts.0 in
     slice_split_first p xs 0 within ∙ ap (λ k. take k xs ∷ slice_split p (drop (k + 1) xs)) parts.1
 
-beyond : (k n : ℕ) → cond (ltb k n) (Some k) None ≡ None → n ≤ k
+pub beyond : (k n : ℕ) → cond (ltb k n) (Some k) None ≡ None → n ≤ k
 beyond k n missing = grind (arith, nat_tests, missing)
 
 -- there is no cut where none passes

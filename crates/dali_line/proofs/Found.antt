@@ -1,5 +1,5 @@
-use Rattle.std.proofs.Common.{◌≡◌, ◌∙◌, ℕ, ◌<◌, ◌≤◌, ◌^◌, Bool, true, length, Option, Some, None, List, [], ◌∷◌, refl, ap, arith}
-use Rattle.std.specs.Prelude.{codes, decimal, option_and_then}
+use Rattle.std.proofs.Common.{◌≡◌, ◌∙◌, ℕ, ◌<◌, ◌≤◌, ◌^◌, true, length, Option, Some, List, [], ◌∷◌, refl, ap, arith}
+use Rattle.std.specs.Prelude.{decimal, option_and_then}
 use Rattle.std.specs.List.{list_all}
 use Rattle.dali_base.specs.Spelling.{moment_digits}
 use Rattle.dali_base.specs.Readers.{spelled_name, spelled_moment}
@@ -10,7 +10,7 @@ use Rattle.dali_line.specs.declared.TheConstants.{MOST_QUANTITY, MOST_PRICE, MOS
 use Rattle.dali_line.specs.declared.command.Verb.{Verb}
 use Rattle.dali_line.specs.declared.command.Verb.TheVariants.{Part, Inst, Issue, Draw, Dvp, Fop, Pay, Cancel, Settle, Cutoff, Cycle, Queue, Close, Stat, Ledger, Earmark, Release, Link, Rank}
 use Rattle.dali_line.specs.Grammar.{pieces_of, kind_text, IsQuantity, IsName, IsWithin, HasFields}
-use Rattle.dali_line.specs.Reading.{spelled_within, spelled_kind, spelled_alone, named_verb, spelled_with_one, spelled_with_two, holding_verb, spelled_with_three, spelled_with_four, spelled_with_five, spelled_with_six, spelled_verb}
+use Rattle.dali_line.specs.Reading.{spelled_within, spelled_alone, named_verb, spelled_with_one, spelled_with_two, holding_verb, spelled_with_three, spelled_with_four, spelled_with_five, spelled_with_six, spelled_verb}
 use Rattle.dali_line.proofs.Plain.{is_piece, name_piece, decimal_piece, moment_piece}
 use Rattle.dali_line.proofs.Steps.{within_found, kind_found}
 

@@ -1,16 +1,14 @@
-use Rattle.std.proofs.Common.{◌≡◌, ◌≢◌, ◌∙◌, ℕ, ◌+◌, ◌^◌, ◌<◌, ◌≤◌, Bool, true, false, cond, Option, Some, None, List, [], ◌∷◌, ◌++◌, length, refl, sym, ap, subst, arith}
+use Rattle.std.proofs.Common.{◌≡◌, ◌∙◌, ℕ, ◌<◌, ◌≤◌, true, Option, Some, None, List, [], ◌∷◌, length, refl, sym, ap, subst, arith}
 use Rattle.std.proofs.lemmas.Bool.Decides.{nat_tests}
 use Rattle.std.proofs.lemmas.List.Splits.{join_with_byte-slice_split}
-use Rattle.std.specs.List.{join_with_byte, list_all}
-use Rattle.std.specs.Prelude.{codes, decimal, IsTrue, IfSome, IfNone, option_and_then, nat_le, ◌&&◌}
-use Rattle.dali_base.specs.Spelling.{is_name, DAY, moment_digits}
-use Rattle.dali_base.specs.Readers.{same_bytes, spelled_name, spelled_number, spelled_moment}
-use Rattle.dali_base.proofs.Spelled.{and_parts, both, same_then, chosen, taken, number_spelled, number_found, moment_spelled, moment_found, name_spelled, name_found}
+use Rattle.std.specs.List.{join_with_byte}
+use Rattle.std.specs.Prelude.{IfSome, IfNone, option_and_then, nat_le}
+use Rattle.dali_base.specs.Spelling.{moment_digits}
+use Rattle.dali_base.specs.Readers.{spelled_moment}
+use Rattle.dali_base.proofs.Spelled.{and_parts, both, chosen, taken, moment_spelled, moment_found}
 use Rattle.dali_line.specs.declared.command.Command.{Command}
 use Rattle.dali_line.specs.declared.command.Verb.{Verb}
-use Rattle.dali_line.specs.declared.command.Verb.TheVariants.{Part, Issue}
-use Rattle.dali_line.specs.declared.TheConstants.{MOST_QUANTITY}
-use Rattle.dali_line.specs.Grammar.{pieces_of, spelling, first_edition, HasFields, IsCommand, Spells}
+use Rattle.dali_line.specs.Grammar.{pieces_of, first_edition, HasFields, IsCommand, Spells}
 use Rattle.dali_line.specs.Reading.{pieces, spelled_verb, in_edition, spelled_command, command_of}
 use Rattle.dali_line.proofs.Plain.{split_join, plain_pieces, moment_plain}
 use Rattle.dali_line.proofs.PieceCounts.{too_long}

@@ -1,4 +1,8 @@
 pub mod Cuts
+pub mod Ends
+pub mod Blocks
+pub mod Scanning
+pub mod Founds
 pub mod PieceCounts
 pub mod Plain
 pub mod Steps

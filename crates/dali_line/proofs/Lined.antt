@@ -1,16 +1,13 @@
-use Rattle.std.proofs.Common.{◌≡◌, ◌∙◌, ℕ, ◌+◌, ◌*◌, ◌/◌, ◌<◌, ◌≤◌, Bool, true, false, not, eqb, List, [], ◌∷◌, ◌++◌, length, refl, sym, ap, arith, length-append, append-nil}
+use Rattle.std.proofs.Common.{◌≡◌, ℕ, ◌+◌, ◌*◌, ◌/◌, ◌≤◌, Bool, true, not, eqb, List, [], ◌∷◌, ◌++◌, length, refl, sym, ap, arith, length-append, append-nil}
 use Rattle.std.proofs.lemmas.Bool.Decides.{nat_tests}
-use Rattle.std.specs.List.{list_all, flat_map, join_with_byte}
+use Rattle.std.specs.List.{list_all, join_with_byte}
 use Rattle.std.specs.Prelude.{nat_le, ◌&&◌, IsTrue}
 use Rattle.dali_base.specs.Spelling.{moment_digits}
 use Rattle.dali_base.proofs.Spelled.{and_parts, both}
-use Rattle.dali_line.specs.declared.command.Command.{Command}
 use Rattle.dali_line.specs.Commands.{is_command}
 use Rattle.dali_line.specs.Line.{is_line}
-use Rattle.dali_line.specs.Grammar.{pieces_of, HasFields, spelling}
 use Rattle.dali_line.specs.Writing.{after_commas}
 use Rattle.dali_line.proofs.Plain.{is_piece, is_piece_byte, list_all-weaker, moment_piece}
-use Rattle.dali_line.proofs.Found.{verb_pieces, few_pieces}
 
 -- pieces joined by commas are the first, and the others each behind a comma
 pub joined : (x : List ℕ) (xs : List (List ℕ)) → join_with_byte 44 (x ∷ xs) ≡ x ++ after_commas xs

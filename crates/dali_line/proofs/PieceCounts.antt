@@ -1,4 +1,4 @@
-use Rattle.std.proofs.Common.{◌≡◌, ◌≢◌, ◌<◌, ℕ, Option, None, List, [], ◌∷◌, length, refl, arith}
+use Rattle.std.proofs.Common.{◌≡◌, ◌≢◌, ◌<◌, ℕ, None, List, [], ◌∷◌, length, refl, arith}
 use Rattle.dali_line.specs.Reading.{spelled_verb}
 
 -- no verb has another number of fields

@@ -1,12 +1,12 @@
-use Rattle.std.proofs.Common.{◌≡◌, ◌∙◌, ℕ, ◌+◌, ◌*◌, ◌/◌, ◌%◌, ◌^◌, ◌<◌, ◌≤◌, Bool, true, false, not, eqb, zero, suc, List, [], ◌∷◌, ◌++◌, length, get_or, refl, sym, ap, arith, rules}
+use Rattle.std.proofs.Common.{◌≡◌, ◌∙◌, ℕ, ◌+◌, ◌/◌, ◌%◌, ◌^◌, ◌<◌, ◌≤◌, Bool, true, false, not, eqb, zero, suc, List, [], ◌∷◌, length, get_or, refl, ap, arith}
 use Rattle.std.proofs.lemmas.Bool.Decides.{nat_tests}
 use Rattle.std.proofs.lemmas.List.Elements.{All-from_get_or}
 use Rattle.std.proofs.lemmas.List.Splits.{slice_split_at, slice_split_none}
 use Rattle.std.proofs.lemmas.Fmt.{digits_decimal, length-decimal-le}
-use Rattle.std.specs.List.{slice_split, list_all, join_with_byte, All}
+use Rattle.std.specs.List.{list_all, join_with_byte, All}
 use Rattle.std.specs.Str.{all_ascii_digits}
 use Rattle.std.specs.Prelude.{decimal, IsTrue, ◌&&◌, nat_le}
-use Rattle.dali_base.specs.Spelling.{is_name, is_name_byte, DAY, moment_digits}
+use Rattle.dali_base.specs.Spelling.{is_name, is_name_byte, moment_digits}
 use Rattle.dali_base.proofs.Spelled.{and_parts, both, own}
 use Rattle.dali_line.specs.Reading.{pieces}
 

@@ -1,12 +1,12 @@
-use Rattle.std.proofs.Common.{◌≡◌, ◌∙◌, ℕ, Bool, true, cond, Option, Some, None, List, [], ◌∷◌, refl, sym, ap, subst}
-use Rattle.std.specs.Prelude.{codes, decimal, IsTrue, option_and_then}
-use Rattle.dali_base.specs.Spelling.{DAY, moment_digits}
+use Rattle.std.proofs.Common.{◌≡◌, ◌∙◌, ℕ, true, Some, None, List, [], ◌∷◌, refl, sym, ap, subst}
+use Rattle.std.specs.Prelude.{codes, decimal}
+use Rattle.dali_base.specs.Spelling.{moment_digits}
 use Rattle.dali_base.specs.Readers.{same_bytes, spelled_name, spelled_moment}
 use Rattle.dali_base.proofs.Spelled.{same_then, name_spelled, moment_spelled}
 use Rattle.dali_line.specs.declared.TheConstants.{MOST_QUANTITY, MOST_PRICE, MOST_BUDGET, MOST_RANK}
 use Rattle.dali_line.specs.declared.command.Verb.{Verb}
 use Rattle.dali_line.specs.declared.command.Verb.TheVariants.{Part, Inst, Issue, Draw, Dvp, Fop, Pay, Cancel, Settle, Cutoff, Cycle, Queue, Close, Stat, Ledger, Earmark, Release, Link, Rank}
-use Rattle.dali_line.specs.Grammar.{pieces_of, kind_text, IsQuantity, IsName, IsWithin, HasFields}
+use Rattle.dali_line.specs.Grammar.{pieces_of, IsQuantity, IsName, HasFields}
 use Rattle.dali_line.specs.Reading.{spelled_within, spelled_kind, spelled_alone, named_verb, spelled_cycle, spelled_with_one, spelled_inst, spelled_cutoff, spelled_link, spelled_rank, spelled_with_two, holding_verb, spelled_with_three, spelled_with_four, spelled_with_five, spelled_with_six, spelled_verb}
 use Rattle.dali_line.proofs.Steps.{bind_some, by_word, no_word, some_same, within_spelled, kind_spelled}
 

@@ -1,10 +1,10 @@
-use Rattle.std.proofs.Common.{◌≡◌, ◌∙◌, ℕ, ◌≤◌, ◌<◌, ◌^◌, Bool, true, false, cond, Option, Some, None, List, [], ◌∷◌, refl, sym, ap, subst, arith}
+use Rattle.std.proofs.Common.{◌≡◌, ◌∙◌, ℕ, ◌≤◌, ◌<◌, ◌^◌, Bool, true, false, cond, Option, Some, None, List, refl, ap, subst, arith}
 use Rattle.std.proofs.lemmas.Bool.Decides.{nat_tests}
 use Rattle.std.specs.Prelude.{option_and_then, decimal, nat_le, codes}
 use Rattle.dali_base.specs.declared.kind.Kind.{Kind}
 use Rattle.dali_base.specs.declared.kind.Kind.TheVariants as kinds
 use Rattle.dali_base.specs.Readers.{same_bytes, spelled_number}
-use Rattle.dali_base.proofs.Spelled.{chosen, taken, number_spelled, number_found, same_then}
+use Rattle.dali_base.proofs.Spelled.{chosen, number_spelled, number_found, same_then}
 use Rattle.dali_line.specs.Grammar.{IsWithin, kind_text}
 use Rattle.dali_line.specs.Reading.{spelled_within, spelled_kind}
 

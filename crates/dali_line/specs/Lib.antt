@@ -1,5 +1,10 @@
 pub mod Commands
 pub mod Line
+pub mod Lines
+pub mod Open
+pub mod Scan
+pub mod BlockLayout
+pub mod LinesLayout
 pub mod Grammar
 pub mod Reading
 pub mod Writing

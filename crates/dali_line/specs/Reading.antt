@@ -1,4 +1,4 @@
-use Rattle.std.specs.Prelude.{ℕ, Bool, ◌==◌, ◌&&◌, nat_le, Option, Some, None, List, [], ◌∷◌, codes, option_and_then, if◌then◌else◌}
+use Rattle.std.specs.Prelude.{ℕ, ◌==◌, ◌&&◌, nat_le, Option, Some, None, List, [], ◌∷◌, codes, option_and_then, if◌then◌else◌}
 use Rattle.std.specs.List.{slice_split}
 use Rattle.dali_base.specs.Readers.{same_bytes, spelled_name, spelled_number, spelled_moment}
 use Rattle.dali_base.specs.declared.TheConstants.{NEWEST}

@@ -2,7 +2,7 @@ use Rattle.std.specs.Prelude.{ℕ, List, ◌∷◌}
 use Rattle.std.specs.List.{flat_map}
 use Rattle.dali_line.specs.declared.command.Verb.{Verb}
 use Rattle.dali_line.specs.declared.command.Verb.TheVariants.{Part, Inst, Issue, Draw, Dvp, Fop, Pay, Cancel, Settle, Cutoff, Cycle, Queue, Close, Stat, Ledger, Earmark, Release, Link, Rank}
-use Rattle.dali_line.specs.declared.TheConstants.{MOST_QUANTITY, MOST_PRICE, MOST_BUDGET, MOST_RANK}
+use Rattle.dali_line.specs.declared.TheConstants.{MOST_PRICE, MOST_BUDGET, MOST_RANK}
 use Rattle.dali_line.specs.Grammar.{IsQuantity, IsWithin}
 
 -- pieces as they stand on a line behind another piece: each behind a comma

@@ -43,7 +43,7 @@ fn split_piece(text: &[u8]) -> (&[u8], &[u8])
     }
 }
 
-fn without_return(piece: &[u8]) -> &[u8]
+pub(crate) fn without_return(piece: &[u8]) -> &[u8]
     ensures { result.now ≡ strip_carriage_return piece.now }
 {
     match piece {

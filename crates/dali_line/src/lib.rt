@@ -1,15 +1,23 @@
 //! The commands of a day file: how its text is cut into commands, and the grammar of a command line.
 //!
-//! The promise to the crates above: the commands of a text are those of `specs/Commands.antt`, and a line is read
-//! as a command exactly where it is that command's one spelling (`specs/Grammar.antt`).
+//! The promise to the crates above: `Lines` gives the commands of `specs/Commands.antt` one after the other, from a
+//! source of any pieces, and a line is read as a command exactly where it is that command's one spelling
+//! (`specs/Grammar.antt`).
 #![tactic(auto)]
 
+mod block;
 mod command;
 mod cut;
 mod fields;
 mod line;
+mod line_end;
+#[cfg(test)]
+mod line_tests;
+mod lines;
+mod open_line;
 mod pieces;
 mod reading;
+mod scan;
 mod split;
 #[cfg(test)]
 mod tests;
@@ -19,6 +27,8 @@ mod writing;
 pub use command::{Command, Verb};
 pub use cut::split_command;
 pub use line::Line;
+pub use line_end::LineEnd;
+pub use lines::Lines;
 pub use reading::read_line;
 pub use writing::write_line;
 

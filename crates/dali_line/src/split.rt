@@ -14,7 +14,7 @@ pub(crate) fn split_once(bytes: &[u8], byte: u8) -> Option<(&[u8], &[u8])>
 }
 
 /// The place of the first `byte`.
-fn find(bytes: &[u8], byte: u8) -> Option<usize>
+pub(crate) fn find(bytes: &[u8], byte: u8) -> Option<usize>
     ensures { result ≡ position (λ b. b == byte) bytes.now }
 {
     bytes.iter().position(|b| *b == byte)

@@ -1,4 +1,4 @@
-use Rattle.std.proofs.Common.{◌≡◌, ◌∙◌, ap, None}
+use Rattle.std.proofs.Common.{◌∙◌, ap, None}
 use Rattle.dali_line.specs.Reading.{command_of, spelled_command}
 use Rattle.dali_line.proofs.Laws.{read_some, read_none, too_many}
 use Rattle.dali_line.proofs.reading.read_line.Goals as goal

@@ -1,4 +1,4 @@
-use Rattle.std.proofs.Common.{◌+◌, length, ap, arith, length-append}
+use Rattle.std.proofs.Common.{length, ap, arith, length-append}
 use Rattle.dali_line.proofs.Cuts.{is_cut}
 use Rattle.dali_line.specs.Reading.{pieces}
 use Rattle.std.specs.Prelude.{◌==◌}
