@@ -57,7 +57,7 @@ put_front false piece old new prints = let begun = prints.begun refl in record {
 }
 
 pub goes_on : (a b c : Sight) → Goes a b → Goes b c → Goes a c
-goes_on a b c first second = record { same_size = second.same_size ∙ first.same_size; print = omega (arith, first.print, second.print) }
+goes_on a b c first second = record { same_size = second.same_size ∙ first.same_size; disk = omega (arith, first.disk, second.disk); print = omega (arith, first.print, second.print) }
 
 pub goes_nowhere : (a : Sight) → Goes a a
-goes_nowhere a = record { same_size = refl; print = omega arith }
+goes_nowhere a = record { same_size = refl; disk = omega arith; print = omega arith }

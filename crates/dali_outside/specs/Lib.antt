@@ -1,2 +1,4 @@
 pub mod Outside
+pub mod Stops
+pub mod Tape
 pub mod Memory

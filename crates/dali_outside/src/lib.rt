@@ -1,9 +1,11 @@
 //! The outside: the traits over which everything above reads its input, writes its disk and prints, and the two
 //! implementations in memory whose every failure is chosen in advance.
 //!
-//! The promise to the crates above: a call fails only where its count of faults rose, a failed call leaves what its
-//! clauses say, and a source or a site in memory fails exactly at the calls that it was told to fail at. What a
-//! source and a site are is defined in `specs/Outside.antt`, what those in memory are in `specs/Memory.antt`.
+//! The promise to the crates above: the disk model, that a call fails only where its count of faults rose, and that a
+//! source or a site in memory fails exactly at the calls that it was told to fail at. What a source and a site are is
+//! defined in `specs/Outside.antt`, what a stop leaves in `specs/Stops.antt`, what those in memory are in
+//! `specs/Memory.antt`. The lemmas of `proofs/Moments.antt` and `proofs/Images.antt` carry what every stop since some
+//! moment leaves over each call.
 #![tactic(auto)]
 
 mod fault;
@@ -11,6 +13,8 @@ mod mem_site;
 mod mem_source;
 mod site;
 mod source;
+mod step;
+mod tape;
 
 pub use fault::{Failed, Fault, Faults};
 pub use mem_site::MemSite;

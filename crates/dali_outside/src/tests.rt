@@ -1,10 +1,14 @@
+ghost use Rattle.std.specs.Prelude.{◌≡◌, ◌+◌, ◌≤◌, length, IfOk};
+
 use crate::{Failed, Fault, Faults, MemSite, MemSource, Site, Source};
 use dali_base::{OutOfMemory, Seq, Text};
 use std::alloc::Global;
 use std::process::Abort;
 use std::test::Fail;
 
-fn text(alloc: Global, bytes: &[u8]) -> Result<Text, OutOfMemory> {
+fn text(alloc: Global, bytes: &[u8]) -> Result<Text, OutOfMemory>
+    ensures { IfOk result (λ text. text ≡ bytes.now) }
+{
     let mut text = Seq::new(alloc);
     text.add(bytes)?;
     Ok(text)
@@ -105,5 +109,72 @@ fn fails_after_its_fuse(rt: HostRuntime) -> Result<(), Fail> {
     puts(&rt, &mut site, b"b\n", false, b"b");
     puts(&rt, &mut site, b"c\n", true, b"bc\n");
     puts(&rt, &mut site, b"d\n", false, b"bc\n");
+    Ok(())
+}
+
+/// A site of four bytes with room for six calls and for three replaced bytes.
+fn small(alloc: Global, fails: &[Fault]) -> Result<MemSite, OutOfMemory>
+    ensures { IfOk result (λ site. site.sight.size ≡ 4) }
+{
+    MemSite::from_image(alloc, text(alloc, b"abcd")?, 8, 6, 3, faults(alloc, fails)?)
+}
+
+/// The next write works or not, and these bytes stand afterwards; a stop leaves this image.
+fn writes(
+    rt: &impl Abort,
+    alloc: Global,
+    site: &mut MemSite,
+    piece: &[u8],
+    worked: bool,
+    bytes: &[u8],
+    image: &[u8],
+) -> Result<(), OutOfMemory>
+    requires { 1 + length piece.now ≤ site.old.sight.size }
+    ensures { site.new.sight.size ≡ site.old.sight.size }
+{
+    let answer = site.write(1, piece).is_ok();
+    let left = site.stop_image(alloc, b'x')?;
+    assert_eq!(rt; answer, worked);
+    assert_eq!(rt; site.bytes(), bytes);
+    assert_eq!(rt; left.bytes(), image);
+    Ok(())
+}
+
+#[test]
+fn a_range_is_loose_until_a_sync(rt: HostRuntime) -> Result<(), Fail> {
+    let alloc = rt.alloc();
+    let mut site = small(alloc, &[])?;
+    writes(&rt, alloc, &mut site, b"PQ", true, b"aPQd", b"axxd")?;
+    assert_eq!(rt; site.sync(), Ok(()));
+    writes(&rt, alloc, &mut site, b"R", true, b"aRQd", b"axQd")?;
+    Ok(())
+}
+
+#[test]
+fn a_failed_write_leaves_what_went(rt: HostRuntime) -> Result<(), Fail> {
+    let alloc = rt.alloc();
+    let mut site = small(alloc, &[Fault { call: 1, went: 1 }])?;
+    writes(&rt, alloc, &mut site, b"PQ", false, b"aP\xeed", b"axxd")?;
+    Ok(())
+}
+
+#[test]
+fn a_write_past_its_room_loosens(rt: HostRuntime) -> Result<(), Fail> {
+    let alloc = rt.alloc();
+    let mut site = small(alloc, &[Fault { call: 2, went: 1 }])?;
+    writes(&rt, alloc, &mut site, b"PQ", true, b"aPQd", b"axxd")?;
+    writes(&rt, alloc, &mut site, b"RST", false, b"aPQd", b"axxx")?;
+    Ok(())
+}
+
+#[test]
+fn reads_what_stands(rt: HostRuntime) -> Result<(), Fail> {
+    let mut site = small(rt.alloc(), &[Fault { call: 2, went: 1 }])?;
+    let mut into = [0; 2];
+    assert_eq!(rt; site.read(1, &mut into), Ok(()));
+    assert_eq!(rt; into.as_slice(), b"bc".as_slice());
+    assert_eq!(rt; site.read(0, &mut into), Err(Failed));
+    assert_eq!(rt; site.sync(), Ok(()));
+    assert_eq!(rt; site.made(), 3);
     Ok(())
 }
