@@ -26,6 +26,16 @@ pub prices-append : (es : List (List ℕ × Listing)) (code : List ℕ) (l : Lis
 prices-append [] code l = refl
 prices-append (e ∷ es) code l = ap (λ rest. (e.0, e.1.price) ∷ rest) (prices-append es code l)
 
+-- another code behind leaves a code unknown
+pub price_after : (codes : List (List ℕ × ℕ)) (code : List ℕ) (price : ℕ) (other : List ℕ) → price_of codes other ≡ None → same_name other code ≡ false → price_of (codes ++ (code, price) ∷ []) other ≡ None
+price_after [] code price other none apart = ap (λ t. cond t (Some price) None) apart
+price_after (c ∷ cs) code price other none apart = by (same_name other c.0) none (price_after cs code price other)
+  where
+    by : (b : Bool) → cond b (Some c.1) (price_of cs other) ≡ None → (price_of cs other ≡ None → same_name other code ≡ false → price_of (cs ++ (code, price) ∷ []) other ≡ None) →
+        cond b (Some c.1) (price_of (cs ++ (code, price) ∷ []) other) ≡ None
+    by true some rest = absurd (true≢false (ap is_some some))
+    by false later rest = rest later apart
+
 -- a listing with the same price leaves the prices
 pub prices-set_value : (test : List ℕ → Bool) (es : List (List ℕ × Listing)) (l w : Listing) → lookup test es ≡ Some l → w.price ≡ l.price → prices (set_value test es w) ≡ prices es
 prices-set_value test [] l w found same = refl

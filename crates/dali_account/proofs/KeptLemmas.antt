@@ -1,4 +1,4 @@
-use Rattle.std.proofs.Common.{◌≡◌, ℕ, ◌+◌, ◌≤◌, Bool, true, false, cond, ◌&&◌, List, [], ◌∷◌, ◌++◌, length, None, refl, sym, ap, ◌∙◌, subst, arith, true≢false}
+use Rattle.std.proofs.Common.{◌≡◌, ℕ, ◌+◌, ◌≤◌, Bool, true, false, cond, ◌&&◌, List, [], ◌∷◌, ◌++◌, length, None, is_some, refl, sym, ap, ◌∙◌, subst, arith, true≢false}
 use Rattle.std.proofs.lemmas.List.{length-append}
 use Rattle.std.proofs.lemmas.List.Folds.{list_any-append}
 use Rattle.std.proofs.lemmas.List.Sums.{sum_by_push}
@@ -8,14 +8,14 @@ use Rattle.std.specs.FinMap as map
 use Rattle.std.specs.List.{IsDistinct}
 use Rattle.std.specs.Prelude.{unwrap_or}
 use Rattle.dali_base.specs.NameList.{NameList, with_name}
-use Rattle.dali_account.proofs.AssetLemmas.{length-prices}
-use Rattle.dali_account.specs.Units.{Pair, Units, pair_cmp, units_of, with_units}
-use Rattle.dali_account.specs.Book.{same_name, cash, has_account, held}
+use Rattle.dali_account.proofs.AssetLemmas.{length-prices, price_after}
+use Rattle.dali_account.specs.Units.{PairKey, Units, pair_cmp, units_of, with_units}
+use Rattle.dali_account.specs.Book.{same_name, cash, has_account, has_asset, price_of, held}
 use Rattle.dali_account.specs.Refusals.{MOST, LIMIT}
 use Rattle.dali_account.specs.AssetList.{AssetList, prices, total_at}
 use Rattle.dali_account.specs.BookKept.{IsBalanced}
 use Rattle.dali_account.proofs.UnitsLemmas.{same_pair}
-use Rattle.dali_account.proofs.SumLemmas.{same_name_is, first_false, held_moved, held_other, units_other, term_le_sum}
+use Rattle.dali_account.proofs.SumLemmas.{same_name_is, same_name_symm, first_false, held_moved, held_other, units_other, term_le_sum}
 
 -- a name that isn't there is another name than one that is
 pub other_name : (accounts : List (List ℕ)) (a b : List ℕ) → has_account accounts a ≡ true → has_account accounts b ≡ false → same_name b a ≡ false
@@ -71,10 +71,16 @@ module _ (accounts : List (List ℕ)) (old new : AssetList) (balances earmarks :
     distinct = kept.distinct;
     accounts_fit = kept.accounts_fit;
     codes_fit = length_kept;
+    cash_apart = ap (λ ps. price_of ps cash) priced ∙ kept.cash_apart;
     totals = totals_kept;
     limit = limit_kept;
     known = known_kept;
   }
+
+  -- the asset's total is the new one, and every other's stays
+  pub total_moved : (q : List ℕ) → held accounts (with_units balances (account, asset) balance) (with_units earmarks (account, asset) earmark) q
+      ≡ cond (same_name q asset) total (held accounts balances earmarks q)
+  total_moved q = sym (totals_kept q) ∙ set q ∙ ap (cond (same_name q asset) total) (kept.totals q)
 
 -- an account more keeps the book balanced
 pub kept_account : (names : NameList) (assets : AssetList) (balances earmarks : Units) (account : List ℕ) → IsBalanced names.names assets balances earmarks → length names.names + 1 ≤ MOST →
@@ -87,6 +93,7 @@ kept_account names assets balances earmarks account kept fit = by (has_account n
       distinct = IsDistinct-push nat_list_eq_equiv names.names account kept.distinct told;
       accounts_fit = omega (arith, length-append names.names (account ∷ []), fit);
       codes_fit = kept.codes_fit;
+      cash_apart = kept.cash_apart;
       totals = λ q.
           let pushed = sum_by_push (λ x. units_of balances (x, q) + units_of earmarks (x, q)) names.names account in
           let none = kept.known account q told in
@@ -96,6 +103,35 @@ kept_account names assets balances earmarks account kept fit = by (has_account n
       known = λ a q absent. kept.known a q (first_false (has_account names.names a) (has_account (account ∷ []) a) (sym (list_any-append (same_name a) names.names (account ∷ [])) ∙ absent));
     }
 
+-- and every total as it was
+pub held_account : (names : NameList) (assets : AssetList) (balances earmarks : Units) (account : List ℕ) → IsBalanced names.names assets balances earmarks → (q : List ℕ) →
+    held (with_name names account).names balances earmarks q ≡ held names.names balances earmarks q
+held_account names assets balances earmarks account kept q = by (has_account names.names account) refl
+  where
+    by : (b : Bool) → has_account names.names account ≡ b → held (cond b names (record { names = names.names ++ account ∷ []; readied = None })).names balances earmarks q ≡ held names.names balances earmarks q
+    by true told = refl
+    by false told =
+        let pushed = sum_by_push (λ x. units_of balances (x, q) + units_of earmarks (x, q)) names.names account in
+        let none = kept.known account q told in
+        omega (arith, pushed, none)
+
+-- a code more keeps the book balanced
+pub kept_code : (accounts : List (List ℕ)) (old new : AssetList) (balances earmarks : Units) (code : List ℕ) (price : ℕ) → IsBalanced accounts old balances earmarks →
+    has_asset (prices old.listings) code ≡ false → length old.listings + 1 ≤ MOST → prices new.listings ≡ prices old.listings ++ (code, price) ∷ [] →
+    ((q : List ℕ) → total_at new q ≡ total_at old q) → IsBalanced accounts new balances earmarks
+kept_code accounts old new balances earmarks code price kept absent fit priced same = record {
+  distinct = kept.distinct;
+  accounts_fit = kept.accounts_fit;
+  codes_fit =
+      let more : length (prices new.listings) ≡ length (prices old.listings ++ (code, price) ∷ []) = ap length priced in
+      omega (arith, more, length-append (prices old.listings) ((code, price) ∷ []), length-prices new.listings, length-prices old.listings, fit);
+  cash_apart = ap (λ ps. price_of ps cash) priced
+      ∙ price_after (prices old.listings) code price cash kept.cash_apart (same_name_symm cash code ∙ first_false (same_name code cash) (is_some (price_of (prices old.listings) code)) absent);
+  totals = λ q. same q ∙ kept.totals q;
+  limit = λ q. let P : ℕ → Type 0 = λ n. n ≤ LIMIT in subst P (sym (same q)) (kept.limit q);
+  known = kept.known;
+}
+
 distinct_none : IsDistinct same_name []
 unfolding IsDistinct
 distinct_none = tt
@@ -104,7 +140,7 @@ totals_none : (b : Bool) → ◌≡◌ {A = ℕ} (cond b 0 0) 0
 totals_none true = refl
 totals_none false = refl
 
-no_units : (q : Pair) → units_of map.empty q ≡ 0
+no_units : (q : PairKey) → units_of map.empty q ≡ 0
 no_units q = ap (λ o. unwrap_or o 0) (map.get-empty pair_cmp q)
 
 -- a book without accounts, codes and units is balanced
@@ -113,6 +149,7 @@ kept_new = record {
   distinct = distinct_none;
   accounts_fit = omega arith;
   codes_fit = omega arith;
+  cash_apart = refl;
   totals = λ q. totals_none (same_name q cash);
   limit = λ q. let P : ℕ → Type 0 = λ n. n ≤ LIMIT in subst P (sym (totals_none (same_name q cash))) (omega arith);
   known = λ a q absent. let none = no_units (a, q) in omega (arith, none);

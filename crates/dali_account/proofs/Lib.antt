@@ -3,6 +3,9 @@ pub mod UnitsLemmas
 pub mod SumLemmas
 pub mod AssetLemmas
 pub mod KeptLemmas
+pub mod TotalLemmas
+pub mod PairLemmas
+pub mod PairListLemmas
 pub mod NetLemmas
 pub mod PostLemmas
 pub mod MidwayLemmas

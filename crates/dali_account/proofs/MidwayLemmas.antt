@@ -5,26 +5,27 @@ use Rattle.std.specs.Prelude.{sum_by, All}
 use Rattle.std.specs.Int.{FitsUnsigned, w64}
 use Rattle.std.specs.List.{IsDistinct}
 use Rattle.dali_account.specs.declared.net.Move.{Move}
-use Rattle.dali_account.specs.Units.{Pair, Units, units_of}
-use Rattle.dali_account.specs.Book.{same_name, has_account, has_asset, held}
+use Rattle.dali_account.specs.Units.{PairKey, Units, units_of}
+use Rattle.dali_account.specs.Book.{same_name, cash, has_account, has_asset, price_of, held}
 use Rattle.dali_account.specs.Refusals.{LIMIT}
 use Rattle.dali_account.specs.AssetList.{AssetList, prices, total_at}
 use Rattle.dali_account.specs.BookKept.{IsBalanced}
-use Rattle.dali_account.specs.Net.{IsNet, pair_of, after_move, with_move, with_net}
+use Rattle.dali_account.specs.Net.{IsNet, pair_of, after_move, with_move, with_net, asset_delta}
 use Rattle.dali_account.proofs.UnitsLemmas.{same_pair}
 use Rattle.dali_account.proofs.SumLemmas.{same_name_is, sum_same, units_same, units_other, term_le_sum}
 use Rattle.dali_account.proofs.AssetLemmas.{length-prices}
 use Rattle.dali_account.proofs.KeptLemmas.{other_name}
-use Rattle.dali_account.proofs.PostLemmas.{Ready, ready_start, ready_more, between, gain, loss, after_balance, after_from_balance, held_after}
+use Rattle.dali_account.proofs.PostLemmas.{Ready, ready_start, ready_more, between, gain, loss, after_balance, after_from_balance, held_after, held_net}
 
 -- a net is posted but for the rest
 pub record Midway (accounts : List (List ℕ)) (codes : List (List ℕ × ℕ)) (earmarks : Units) (assets : AssetList) (start now : Units) (net rest : List Move) : Type 0 where
   pub distinct : IsDistinct same_name accounts
   pub limit_start : (q : List ℕ) → held accounts start earmarks q ≤ LIMIT
   pub limit_end : (q : List ℕ) → held accounts (with_net start net) earmarks q ≤ LIMIT
+  pub summed : (q : List ℕ) → pos (held accounts (with_net start net) earmarks q) ≡ pos (held accounts start earmarks q) +ℤ asset_delta net q
   pub priced : prices assets.listings ≡ codes
   pub result : with_net now rest ≡ with_net start net
-  pub between : (p : Pair) → units_of now p ≤ units_of start p + units_of (with_net now rest) p
+  pub between : (p : PairKey) → units_of now p ≤ units_of start p + units_of (with_net now rest) p
   pub totals : (q : List ℕ) → total_at assets q ≡ held accounts now earmarks q
   pub known : (a q : List ℕ) → has_account accounts a ≡ false → units_of now (a, q) + units_of earmarks (a, q) ≡ 0
   pub ready : Ready accounts codes now rest
@@ -46,7 +47,7 @@ sum_both f g (x ∷ xs) =
 module _ (accounts : List (List ℕ)) (codes : List (List ℕ × ℕ)) (earmarks : Units) (assets : AssetList) (start now : Units) (net : List Move) (x : Move) (ms : List Move)
     (mid : Midway accounts codes earmarks assets start now net (x ∷ ms)) where
   -- the units after the move are at most those before and after the net together
-  bounded : (p : Pair) → units_of (with_move now x) p ≤ units_of start p + units_of (with_net start net) p
+  bounded : (p : PairKey) → units_of (with_move now x) p ≤ units_of start p + units_of (with_net start net) p
   bounded p =
       let step = between ms start now x mid.ready.3 mid.between p in
       let same : units_of (with_net (with_move now x) ms) p ≡ units_of (with_net start net) p = ap (λ m. units_of m p) mid.result in
@@ -99,6 +100,7 @@ module _ (accounts : List (List ℕ)) (codes : List (List ℕ × ℕ)) (earmarks
     distinct = mid.distinct;
     limit_start = mid.limit_start;
     limit_end = mid.limit_end;
+    summed = mid.summed;
     priced = priced ∙ mid.priced;
     result = mid.result;
     between = between ms start now x mid.ready.3 mid.between;
@@ -133,17 +135,19 @@ pub midway_start : (accounts : List (List ℕ)) (assets : AssetList) (earmarks s
     All (λ (m : Move). pos 0 ≤ℤ (pos (units_of start (pair_of m)) +ℤ m.delta)) net →
     ((q : List ℕ) → held accounts (with_net start net) earmarks q ≤ LIMIT) →
     Midway accounts (prices assets.listings) earmarks assets start start net net
-midway_start accounts assets earmarks start net kept is_net known covered limit = record {
-  distinct = kept.distinct;
-  limit_start = λ q. let P : ℕ → Type 0 = λ n. n ≤ LIMIT in subst P (kept.totals q) (kept.limit q);
-  limit_end = limit;
-  priced = refl;
-  result = refl;
-  between = λ p. omega arith;
-  totals = kept.totals;
-  known = kept.known;
-  ready = ready_start accounts (prices assets.listings) start net is_net.rising known covered;
-}
+midway_start accounts assets earmarks start net kept is_net known covered limit =
+    let ready = ready_start accounts (prices assets.listings) start net is_net.rising known covered in record {
+      distinct = kept.distinct;
+      limit_start = λ q. let P : ℕ → Type 0 = λ n. n ≤ LIMIT in subst P (kept.totals q) (kept.limit q);
+      limit_end = limit;
+      summed = λ q. held_net accounts (prices assets.listings) earmarks q kept.distinct net start ready;
+      priced = refl;
+      result = refl;
+      between = λ p. omega arith;
+      totals = kept.totals;
+      known = kept.known;
+      ready = ready;
+    }
 
 -- after the last move
 pub midway_end : (accounts : List (List ℕ)) (old assets : AssetList) (earmarks start now : Units) (net : List Move) → IsBalanced accounts old start earmarks →
@@ -155,9 +159,15 @@ midway_end accounts old assets earmarks start now net kept mid = record {
       let same : length (prices assets.listings) ≡ length (prices old.listings) = ap length mid.priced in
       let fit = kept.codes_fit in
       omega (arith, same, length-prices assets.listings, length-prices old.listings, fit);
+  cash_apart = ap (λ codes. price_of codes cash) mid.priced ∙ kept.cash_apart;
   totals = mid.totals;
   limit = λ q.
       let P : ℕ → Type 0 = λ n. n ≤ LIMIT in
       subst P (sym (mid.totals q ∙ ap (λ m. held accounts m earmarks q) mid.result)) (mid.limit_end q);
   known = mid.known;
 }
+
+-- and each total has changed by the deltas of its asset
+pub midway_totals : (accounts : List (List ℕ)) (codes : List (List ℕ × ℕ)) (assets : AssetList) (earmarks start now : Units) (net : List Move) →
+    Midway accounts codes earmarks assets start now net [] → (q : List ℕ) → pos (held accounts now earmarks q) ≡ pos (held accounts start earmarks q) +ℤ asset_delta net q
+midway_totals accounts codes assets earmarks start now net mid q = ap (λ m. pos (held accounts m earmarks q)) mid.result ∙ mid.summed q

@@ -6,16 +6,16 @@ use Rattle.std.specs.List.{AllByRecursion}
 use Rattle.std.specs.List.Sorted.{IsStrictlySortedBy}
 use Rattle.std.specs.declared.cmp.Ordering.TheVariants.{Less}
 use Rattle.dali_account.specs.declared.net.Move.{Move}
-use Rattle.dali_account.specs.Units.{Pair, pair_cmp}
+use Rattle.dali_account.specs.Units.{PairKey, pair_cmp}
 use Rattle.dali_account.specs.Net.{pair_of, last_of, IsNet, IsAfter}
 use Rattle.dali_account.proofs.UnitsLemmas.{pair_total}
 
-all_after : (x z : Pair) (ws : List Pair) → pair_cmp x z ≡ Less → AllByRecursion (λ w. pair_cmp z w ≡ Less) ws → AllByRecursion (λ w. pair_cmp x w ≡ Less) ws
+all_after : (x z : PairKey) (ws : List PairKey) → pair_cmp x z ≡ Less → AllByRecursion (λ w. pair_cmp z w ≡ Less) ws → AllByRecursion (λ w. pair_cmp x w ≡ Less) ws
 all_after x z [] e h = tt
 all_after x z (w ∷ ws) e h = (pair_total.trans x z w e h.0, all_after x z ws e h.1)
 
 -- pairs in order stay so with a pair behind the last one
-pub sorted_push : (xs : List Pair) (y : Pair) → IsStrictlySortedBy pair_cmp xs → IfSome (last_of xs) (λ last. pair_cmp last y ≡ Less) → IsStrictlySortedBy pair_cmp (xs ++ y ∷ [])
+pub sorted_push : (xs : List PairKey) (y : PairKey) → IsStrictlySortedBy pair_cmp xs → IfSome (last_of xs) (λ last. pair_cmp last y ≡ Less) → IsStrictlySortedBy pair_cmp (xs ++ y ∷ [])
 unfolding IsStrictlySortedBy
 sorted_push [] y s h = (tt, tt)
 sorted_push (x ∷ []) y s h = ((h, tt), (tt, tt))

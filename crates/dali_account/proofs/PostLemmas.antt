@@ -1,4 +1,4 @@
-use Rattle.std.proofs.Common.{◌≡◌, ℕ, ◌+◌, ◌≤◌, suc, ℤ, pos, negsuc, ◌+ℤ◌, ◌≤ℤ◌, Bool, true, false, ◌&&◌, List, [], ◌∷◌, refl, sym, ap, ◌∙◌, subst, arith, true≢false, map}
+use Rattle.std.proofs.Common.{◌≡◌, ℕ, ◌+◌, ◌≤◌, suc, ℤ, pos, negsuc, ◌+ℤ◌, ◌≤ℤ◌, Bool, true, false, cond, ◌&&◌, List, [], ◌∷◌, refl, sym, ap, ◌∙◌, subst, arith, true≢false, map}
 use Rattle.std.proofs.lemmas.Int.{ints}
 use Rattle.std.proofs.lemmas.List.Elements.{All-tail}
 use Rattle.std.specs.Prelude.{All}
@@ -8,16 +8,16 @@ use Rattle.std.specs.List.Sorted.{IsStrictlySortedBy}
 use Rattle.std.specs.declared.cmp.Ordering.TheVariants.{Less}
 use Rattle.std.specs.Ordering.{is_eq}
 use Rattle.dali_account.specs.declared.net.Move.{Move}
-use Rattle.dali_account.specs.Units.{Pair, Units, pair_cmp, units_of}
-use Rattle.dali_account.specs.Net.{pair_of, after_move, with_move, with_net}
+use Rattle.dali_account.specs.Units.{PairKey, Units, pair_cmp, units_of}
+use Rattle.dali_account.specs.Net.{pair_of, after_move, with_move, with_net, asset_delta}
 use Rattle.dali_account.proofs.UnitsLemmas.{same_pair, same_pair_is, pair_ties}
-use Rattle.dali_account.proofs.SumLemmas.{units_same, units_other, sum_moved, same_name_symm, first_true, second_from_first}
+use Rattle.dali_account.proofs.SumLemmas.{units_same, units_other, sum_moved, sum_same, same_name_is, same_name_symm, first_true, second_from_first, and_false}
 
 -- pairs in order are different pairs
-apart : (p q : Pair) → pair_cmp p q ≡ Less → same_pair p q ≡ false
+apart : (p q : PairKey) → pair_cmp p q ≡ Less → same_pair p q ≡ false
 apart p q e = pair_ties p q ∙ ap is_eq e
 
-apart_back : (p q : Pair) → pair_cmp p q ≡ Less → same_pair q p ≡ false
+apart_back : (p q : PairKey) → pair_cmp p q ≡ Less → same_pair q p ≡ false
 apart_back p q e = by (same_pair q p) refl
   where
     by : (b : Bool) → same_pair q p ≡ b → b ≡ false
@@ -27,18 +27,18 @@ apart_back p q e = by (same_pair q p) refl
         absurd (true≢false (sym told ∙ ap (λ r. same_pair r p) is ∙ ap (same_pair p) (sym is) ∙ apart p q e))
 
 -- the moves of a list stand behind the pair
-abbrev pub Behind : Pair → List Move → Type 0
+abbrev pub Behind : PairKey → List Move → Type 0
 Behind p ms = AllByRecursion (λ q. pair_cmp p q ≡ Less) (map pair_of ms)
 
 -- moves behind a pair leave its units
-pub untouched : (ms : List Move) (m : Units) (p : Pair) → Behind p ms → units_of (with_net m ms) p ≡ units_of m p
+pub untouched : (ms : List Move) (m : Units) (p : PairKey) → Behind p ms → units_of (with_net m ms) p ≡ units_of m p
 untouched [] m p h = refl
 untouched (x ∷ ms) m p h = untouched ms (with_move m x) p h.1 ∙ units_other m (pair_of x) (after_move (units_of m (pair_of x)) x.delta) p (apart p (pair_of x) h.0)
 
 -- units after one move are those before or those at the end
 pub between : (ms : List Move) (start now : Units) (x : Move) → Behind (pair_of x) ms →
-    ((p : Pair) → units_of now p ≤ units_of start p + units_of (with_net now (x ∷ ms)) p) →
-    (p : Pair) → units_of (with_move now x) p ≤ units_of start p + units_of (with_net (with_move now x) ms) p
+    ((p : PairKey) → units_of now p ≤ units_of start p + units_of (with_net now (x ∷ ms)) p) →
+    (p : PairKey) → units_of (with_move now x) p ≤ units_of start p + units_of (with_net (with_move now x) ms) p
 between ms start now x behind before p = by (same_pair p (pair_of x)) refl
   where
     by : (b : Bool) → same_pair p (pair_of x) ≡ b → units_of (with_move now x) p ≤ units_of start p + units_of (with_net (with_move now x) ms) p
@@ -110,3 +110,38 @@ held_after accounts now earmarks x distinct there covered =
     units_other now (pair_of x) (after_move (units_of now (pair_of x)) x.delta) (a, x.asset) (ap (λ t. t && same_name x.asset x.asset) (same_name_symm a x.account ∙ e)) in
     omega (arith, other))
     (gain x.delta) (loss x.delta) (omega (arith, own, change)) accounts distinct there
+
+regroup : (a b c : ℤ) → (a +ℤ b) +ℤ c ≡ a +ℤ (b +ℤ c)
+regroup a b c = omega (arith, ints)
+
+signed : (n m : ℕ) (delta : ℤ) → n + loss delta ≡ m + gain delta → pos n ≡ pos m +ℤ delta
+signed n m (pos k) h = omega (arith, ints, h)
+signed n m (negsuc k) h = omega (arith, ints, h)
+
+-- the units of an asset after a move
+held_move : (accounts : List (List ℕ)) (now earmarks : Units) (x : Move) (q : List ℕ) → IsDistinct same_name accounts → has_account accounts x.account ≡ true →
+    pos 0 ≤ℤ (pos (units_of now (pair_of x)) +ℤ x.delta) →
+    pos (held accounts (with_move now x) earmarks q) ≡ pos (held accounts now earmarks q) +ℤ cond (same_name q x.asset) x.delta (pos 0)
+held_move accounts now earmarks x q distinct there covered = by (same_name q x.asset) refl
+  where
+    by : (b : Bool) → same_name q x.asset ≡ b → pos (held accounts (with_move now x) earmarks q) ≡ pos (held accounts now earmarks q) +ℤ cond b x.delta (pos 0)
+    by true told =
+        let own : pos (held accounts (with_move now x) earmarks x.asset) ≡ pos (held accounts now earmarks x.asset) +ℤ x.delta =
+        signed (held accounts (with_move now x) earmarks x.asset) (held accounts now earmarks x.asset) x.delta (held_after accounts now earmarks x distinct there covered) in
+        subst (λ (r : List ℕ). pos (held accounts (with_move now x) earmarks r) ≡ pos (held accounts now earmarks r) +ℤ x.delta) (sym (same_name_is q x.asset told)) own
+    by false told =
+        let same : held accounts (with_move now x) earmarks q ≡ held accounts now earmarks q =
+        sum_same (λ a. units_of now (a, q) + units_of earmarks (a, q)) (λ a. units_of (with_move now x) (a, q) + units_of earmarks (a, q)) accounts
+        (λ a. let stays : units_of (with_move now x) (a, q) ≡ units_of now (a, q) =
+        units_other now (pair_of x) (after_move (units_of now (pair_of x)) x.delta) (a, q) (and_false (same_name a x.account) (same_name q x.asset) told) in
+        omega (arith, stays)) in
+        omega (arith, ints, same)
+
+-- the units of an asset after a net
+pub held_net : (accounts : List (List ℕ)) (codes : List (List ℕ × ℕ)) (earmarks : Units) (q : List ℕ) → IsDistinct same_name accounts → (ms : List Move) (now : Units) → Ready accounts codes now ms →
+    pos (held accounts (with_net now ms) earmarks q) ≡ pos (held accounts now earmarks q) +ℤ asset_delta ms q
+held_net accounts codes earmarks q distinct [] now ready = omega (arith, ints)
+held_net accounts codes earmarks q distinct (x ∷ ms) now ready =
+    let rest = held_net accounts codes earmarks q distinct ms (with_move now x) (ready_more accounts codes now x ms ready.3 ready.4) in
+    let first = held_move accounts now earmarks x q distinct ready.0 ready.2 in
+    rest ∙ ap (λ z. z +ℤ asset_delta ms q) first ∙ regroup (pos (held accounts now earmarks q)) (cond (same_name q x.asset) x.delta (pos 0)) (asset_delta ms q)

@@ -5,13 +5,13 @@ use Rattle.std.specs.List.{IsDistinct, AllByRecursion}
 use Rattle.std.specs.Cmp.Lexicographic.{nat_list_eq_equiv}
 use Rattle.std.proofs.lemmas.List.Sums.{sum_by-cons}
 use Rattle.std.proofs.lemmas.Map.Keys.{IsDistinct-head, IsDistinct-tail}
-use Rattle.dali_account.specs.Units.{Pair, Units, units_of, with_units}
+use Rattle.dali_account.specs.Units.{PairKey, Units, units_of, with_units, some_units}
 use Rattle.dali_account.specs.Book.{same_name, has_account, held}
-use Rattle.dali_account.proofs.UnitsLemmas.{same_pair, same_pair_is, get-with_units, unwrapped, some_units}
+use Rattle.dali_account.proofs.UnitsLemmas.{same_pair, same_pair_is, get-with_units, unwrapped}
 
 -- names are equal where the test says so
 pub same_name_is : (x y : List ℕ) → same_name x y ≡ true → x ≡ y
-same_name_is x y e = ap (λ (p : Pair). p.0) (same_pair_is (x, x) (y, x) (ap (λ t. t && same_name x x) e ∙ nat_list_eq_equiv.refl x))
+same_name_is x y e = ap (λ (p : PairKey). p.0) (same_pair_is (x, x) (y, x) (ap (λ t. t && same_name x x) e ∙ nat_list_eq_equiv.refl x))
 
 pub same_name_refl : (x : List ℕ) → same_name x x ≡ true
 same_name_refl x = nat_list_eq_equiv.refl x
@@ -86,23 +86,23 @@ pub sum_same : (f g : List ℕ → ℕ) (xs : List (List ℕ)) → ((x : List �
 sum_same f g xs same = λ j. sum_by (λ x. same x j) xs
 
 -- the number at a pair after one was put
-pub units-with_units : (m : Units) (p : Pair) (n : ℕ) (q : Pair) → units_of (with_units m p n) q ≡ cond (same_pair q p) n (units_of m q)
+pub units-with_units : (m : Units) (p : PairKey) (n : ℕ) (q : PairKey) → units_of (with_units m p n) q ≡ cond (same_pair q p) n (units_of m q)
 units-with_units m p n q = ap (λ o. unwrap_or o 0) (get-with_units m p n q) ∙ by (same_pair q p)
   where
     by : (b : Bool) → unwrap_or (cond b (some_units n) (map.get m q)) 0 ≡ cond b n (units_of m q)
     by true = unwrapped n
     by false = refl
 
-same_pair_itself : (p : Pair) → same_pair p p ≡ true
+same_pair_itself : (p : PairKey) → same_pair p p ≡ true
 same_pair_itself p = ap (λ t. t && same_name p.1 p.1) (same_name_refl p.0) ∙ same_name_refl p.1
 
-pub units_same : (m : Units) (p : Pair) (n : ℕ) → units_of (with_units m p n) p ≡ n
+pub units_same : (m : Units) (p : PairKey) (n : ℕ) → units_of (with_units m p n) p ≡ n
 units_same m p n = units-with_units m p n p ∙ ap (λ t. cond t n (units_of m p)) (same_pair_itself p)
 
-pub units_other : (m : Units) (p : Pair) (n : ℕ) (q : Pair) → same_pair q p ≡ false → units_of (with_units m p n) q ≡ units_of m q
+pub units_other : (m : Units) (p : PairKey) (n : ℕ) (q : PairKey) → same_pair q p ≡ false → units_of (with_units m p n) q ≡ units_of m q
 units_other m p n q e = units-with_units m p n q ∙ ap (λ t. cond t n (units_of m q)) e
 
-and_false : (s t : Bool) → t ≡ false → (s && t) ≡ false
+pub and_false : (s t : Bool) → t ≡ false → (s && t) ≡ false
 and_false true t e = e
 and_false false t e = refl
 

@@ -50,7 +50,7 @@ price_of codes code = lookup (same_name code) codes
 abbrev pub has_asset : List (List ℕ × ℕ) → List ℕ → Bool
 has_asset codes asset = same_name asset cash || is_some (price_of codes asset)
 
--- the units of an asset that these accounts hold, free and earmarked
+-- the units of an asset that these accounts hold, free and after_earmark
 abbrev pub held : List (List ℕ) → Units → Units → List ℕ → ℕ
 held accounts balances earmarks asset = sum_by (λ account. units_of balances (account, asset) + units_of earmarks (account, asset)) accounts
 
@@ -81,8 +81,8 @@ issued b account asset n = with_pair b account asset (balance_of b account asset
 abbrev pub drawn : BookRecord → List ℕ → List ℕ → ℕ → BookRecord
 drawn b account asset n = with_pair b account asset (balance_of b account asset - n) (earmark_of b account asset)
 
-abbrev pub earmarked : BookRecord → List ℕ → List ℕ → ℕ → BookRecord
-earmarked b account asset n = with_pair b account asset (balance_of b account asset - n) (earmark_of b account asset + n)
+abbrev pub after_earmark : BookRecord → List ℕ → List ℕ → ℕ → BookRecord
+after_earmark b account asset n = with_pair b account asset (balance_of b account asset - n) (earmark_of b account asset + n)
 
-abbrev pub released : BookRecord → List ℕ → List ℕ → ℕ → BookRecord
-released b account asset n = with_pair b account asset (balance_of b account asset + n) (earmark_of b account asset - n)
+abbrev pub after_release : BookRecord → List ℕ → List ℕ → ℕ → BookRecord
+after_release b account asset n = with_pair b account asset (balance_of b account asset + n) (earmark_of b account asset - n)

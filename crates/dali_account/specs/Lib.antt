@@ -1,6 +1,7 @@
 pub mod Units
 pub mod Holding
 pub mod Book
+pub mod Pairs
 pub mod Refusals
 pub mod AssetList
 pub mod AssetRoom

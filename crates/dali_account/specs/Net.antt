@@ -1,11 +1,12 @@
-use Rattle.std.specs.Prelude.{◌≡◌, ◌≢◌, ℕ, ℤ, pos, unsigned_abs, ◌+ℤ◌, List, [], ◌∷◌, Option, Some, None, map, fold, All, IfSome}
+use Rattle.std.specs.Prelude.{◌≡◌, ◌≢◌, ℕ, ℤ, pos, unsigned_abs, ◌+ℤ◌, List, [], ◌∷◌, Option, Some, None, map, fold, All, IfSome, if◌then◌else◌}
 use Rattle.std.specs.declared.cmp.Ordering.TheVariants.{Less}
 use Rattle.std.specs.List.Sorted.{IsStrictlySortedBy}
 use Rattle.dali_account.specs.declared.net.Move.{Move}
-use Rattle.dali_account.specs.Units.{Pair, Units, pair_cmp, units_of, with_units}
+use Rattle.dali_account.specs.Book.{same_name}
+use Rattle.dali_account.specs.Units.{PairKey, Units, pair_cmp, units_of, with_units}
 
 -- the pair that a move changes
-abbrev pub pair_of : Move → Pair
+abbrev pub pair_of : Move → PairKey
 pair_of m = (m.account, m.asset)
 
 -- moves in byte order of account, then of asset, each pair once and none of 0
@@ -32,3 +33,8 @@ with_move m move = with_units m (pair_of move) (after_move (units_of m (pair_of 
 -- the balances with all moves of a net
 abbrev pub with_net : Units → List Move → Units
 with_net m net = fold with_move m net
+
+-- the sum of the deltas of an asset
+abbrev pub asset_delta : List Move → List ℕ → ℤ
+asset_delta [] asset = pos 0
+asset_delta (m ∷ ms) asset = (if same_name asset m.asset then m.delta else pos 0) +ℤ asset_delta ms asset

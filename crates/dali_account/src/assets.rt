@@ -1,9 +1,10 @@
-ghost use Rattle.std.specs.Prelude.{◌≡◌, ℕ, ◌<◌, ◌++◌, [], ◌∷◌, Some, None, List, length, false, true, IsTrue, IsOk, OnOk, OnErr, if◌then◌else◌};
+ghost use Rattle.std.specs.Prelude.{◌≡◌, ℕ, ◌<◌, ◌++◌, [], ◌∷◌, Some, None, List, length, false, true, IsTrue, IsOk, OnOk, OnErr, slice_get, if◌then◌else◌};
+ghost use Rattle.std.specs.Map.{keys_of};
 ghost use Rattle.std.specs.Option.{option_map};
 ghost use Rattle.dali_account.specs.AssetList.{listing_of, prices, total_at};
 ghost use Rattle.dali_account.specs.Book.{same_name, cash, price_of, has_asset};
 
-use dali_base::{Name, OutOfMemory};
+use dali_base::{Name, OutOfMemory, read_name};
 use indexmap::IndexMap;
 use std::alloc::Global;
 use std::marker::Model;
@@ -54,6 +55,15 @@ impl Assets {
         ensures { result ≡ length self.now.listings }
     {
         self.listings.len()
+    }
+
+    /// The code at this place.
+    pub fn code(&self, place: usize) -> Name
+        requires { place < length self.now.listings }
+        ensures { slice_get (keys_of self.now.listings) place ≡ Some result }
+    {
+        let (code, _) = self.listings.get_index(place).unwrap();
+        *code
     }
 
     /// The price of a code. `None` exactly where there is no such code.
@@ -133,6 +143,13 @@ impl Assets {
             Err(_) => Err(OutOfMemory),
         }
     }
+}
+
+/// The asset of cash.
+pub fn cash_name() -> Name
+    ensures { result ≡ cash }
+{
+    read_name(b"MXN".as_slice()).unwrap()
 }
 
 /// Whether the asset is cash.

@@ -1,8 +1,9 @@
-ghost use Rattle.std.specs.Prelude.{◌≡◌, ◌≢◌, ◌≤◌, ◌++◌, [], ◌∷◌, Some, None, Err, length, OnOk, OnErr};
+ghost use Rattle.std.specs.Prelude.{◌≡◌, ◌≢◌, ◌≤◌, ℕ, List, ◌++◌, [], ◌∷◌, Some, None, Err, length, OnOk, OnErr};
 ghost use Rattle.std.specs.FinMap as map;
-ghost use Rattle.dali_account.specs.Book.{has_account, has_asset, price_of, balance_of, earmark_of, total_of};
-ghost use Rattle.dali_account.specs.Refusals.{LIMIT, Answers, account_refusal, asset_refusal};
+ghost use Rattle.dali_account.specs.Book.{cash, has_account, has_asset, price_of, balance_of, earmark_of, total_of};
+ghost use Rattle.dali_account.specs.Refusals.{MOST, LIMIT, Answers, account_refusal, asset_refusal};
 
+mod pairs;
 mod post;
 mod units;
 
@@ -72,7 +73,8 @@ impl Book {
 
     /// The price of a code in centavos. `None` exactly for an unknown code and for `MXN`.
     pub fn price(&self, code: Name) -> Option<u64>
-        ensures { result ≡ price_of self.now.book.codes code }
+        ensures price { result ≡ price_of self.now.book.codes code }
+        ensures cash { price_of self.now.book.codes cash ≡ None }
     {
         self.assets.price(code)
     }
@@ -88,6 +90,7 @@ impl Book {
     pub fn balance(&self, account: Name, asset: Name) -> u64
         ensures balance { result ≡ balance_of self.now.book account asset }
         ensures within { result ≤ total_of self.now.book asset }
+        ensures limit { total_of self.now.book asset ≤ LIMIT }
     {
         self.balances.units(account, asset)
     }
@@ -96,6 +99,7 @@ impl Book {
     pub fn earmarked(&self, account: Name, asset: Name) -> u64
         ensures earmark { result ≡ earmark_of self.now.book account asset }
         ensures within { result ≤ total_of self.now.book asset }
+        ensures limit { total_of self.now.book asset ≤ LIMIT }
     {
         self.earmarks.units(account, asset)
     }
@@ -110,14 +114,17 @@ impl Book {
 
     /// The number of accounts, at most 1,000.
     pub fn accounts(&self) -> u32
-        ensures { result ≡ length self.now.book.accounts }
+        ensures count { result ≡ length self.now.book.accounts }
+        ensures most { result ≤ MOST }
     {
         self.accounts.len()
     }
 
     /// The number of codes, without `MXN`, at most 1,000.
     pub fn assets(&self) -> u32
-        ensures { result ≡ length self.now.book.codes }
+        ensures count { result ≡ length self.now.book.codes }
+        ensures most { result ≤ MOST }
+        ensures cash { price_of self.now.book.codes cash ≡ None }
     {
         self.assets.len() as u32
     }
@@ -128,6 +135,7 @@ impl Book {
     pub fn add_account(&mut self, account: Name) -> Result<(), BookNo>
         ensures refusal { Answers (account_refusal self.old.book account) result }
         ensures ok { OnOk result (self.new.book ≡ record self.old.book { accounts = self.old.book.accounts ++ account ∷ [] }) }
+        ensures totals { (asset : List ℕ) → total_of self.new.book asset ≡ total_of self.old.book asset }
         ensures readied { self.old.readied_account ≡ Some account → result ≢ Err BookNo.OutOfMemory }
         ensures readied_account { OnOk result (self.new.readied_account ≡ None) }
         ensures readied_code { self.new.readied_code ≡ self.old.readied_code }
@@ -155,6 +163,7 @@ impl Book {
         requires to_limit { price ≤ 1000000000 }
         ensures refusal { Answers (asset_refusal self.old.book code) result }
         ensures ok { OnOk result (self.new.book ≡ record self.old.book { codes = self.old.book.codes ++ (code, price) ∷ [] }) }
+        ensures totals { (asset : List ℕ) → total_of self.new.book asset ≡ total_of self.old.book asset }
         ensures readied { self.old.readied_code ≡ Some code → result ≢ Err BookNo.OutOfMemory }
         ensures readied_code { OnOk result (self.new.readied_code ≡ None) }
         ensures readied_account { self.new.readied_account ≡ self.old.readied_account }

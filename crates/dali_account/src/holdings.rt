@@ -1,6 +1,6 @@
 ghost use Rattle.std.specs.Prelude.{◌≡◌, ◌<◌, ◌≤◌, ◌+◌, [], ◌∷◌, IsOk, OnOk, OnErr};
 ghost use Rattle.std.specs.FinMap as map;
-ghost use Rattle.dali_account.specs.Units.{units_of, with_units};
+ghost use Rattle.dali_account.specs.Units.{HasNoZero, units_of, with_units};
 
 use dali_base::{Name, OutOfMemory};
 use indexmap::IndexMap;
@@ -36,8 +36,10 @@ impl Holdings {
     }
 
     /// The units under this pair, 0 where there are none.
+    #[tactic(auto, using(crate::proofs::UnitsLemmas::no_zero_in))]
     pub fn units(&self, account: Name, asset: Name) -> u64
-        ensures { result ≡ units_of self.now.units (account, asset) }
+        ensures units { result ≡ units_of self.now.units (account, asset) }
+        ensures no_zero { HasNoZero self.now.units }
     {
         match self.lines.get(&(account, asset)) {
             Some(units) => *units,

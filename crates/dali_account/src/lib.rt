@@ -9,10 +9,12 @@ mod assets;
 mod book;
 mod holdings;
 mod net;
+mod pairs;
 mod refusal;
 
 pub use book::Book;
 pub use net::{Move, Net};
+pub use pairs::{Pair, Pairs};
 pub use refusal::BookNo;
 
 #[cfg(test)]

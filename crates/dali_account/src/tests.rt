@@ -1,4 +1,4 @@
-use crate::{Book, BookNo};
+use crate::{Book, BookNo, Move, Net, Pair, Pairs};
 use dali_base::{Name, Text, read_name};
 use std::alloc::Global;
 use std::test::Fail;
@@ -51,14 +51,127 @@ fn total_limit(rt: HostRuntime) -> Result<(), Fail> {
 }
 
 #[test]
-fn full_tables(rt: HostRuntime) -> Result<(), Fail> {
+fn full_accounts(rt: HostRuntime) -> Result<(), Fail> {
     let mut book = Book::new(rt.alloc());
     add_accounts(rt.alloc(), &mut book, 1000)?;
-    add_codes(rt.alloc(), &mut book, 1000)?;
+    assert_eq!(rt;
+        book.add_account(name(b"MORE".as_slice())?),
+        Err(BookNo::Full)
+    );
     assert_eq!(rt; book.accounts(), 1000);
+    Ok(())
+}
+
+#[test]
+fn full_codes(rt: HostRuntime) -> Result<(), Fail> {
+    let mut book = Book::new(rt.alloc());
+    add_codes(rt.alloc(), &mut book, 1000)?;
+    assert_eq!(rt;
+        book.add_asset(name(b"MORE".as_slice())?, 1),
+        Err(BookNo::Full)
+    );
     assert_eq!(rt; book.assets(), 1000);
-    let more = name(b"MORE".as_slice())?;
-    assert_eq!(rt; book.add_account(more), Err(BookNo::Full));
-    assert_eq!(rt; book.add_asset(more, 1), Err(BookNo::Full));
+    Ok(())
+}
+
+/// A book in which BANK has these centavos.
+fn book_with(alloc: Global, centavos: u64) -> Result<Book, Fail> {
+    let bank = name(b"BANK".as_slice())?;
+    let mut book = Book::new(alloc);
+    book.add_account(bank)?;
+    book.issue(bank, name(b"MXN".as_slice())?, centavos)?;
+    Ok(book)
+}
+
+/// Adds a code, and issues these units of it to BANK.
+fn issue_code(book: &mut Book, code: &[u8], units: u64) -> Result<(), Fail> {
+    let code = name(code)?;
+    book.add_asset(code, 1)?;
+    book.issue(name(b"BANK".as_slice())?, code, units)?;
+    Ok(())
+}
+
+/// The pairs of 3 GOLD and 700 centavos.
+fn gold_and_cash(alloc: Global) -> Result<Pairs, Fail> {
+    let mut pairs = Pairs::new(alloc);
+    let gold = name(b"GOLD".as_slice())?;
+    pairs.push(Pair {
+        asset: gold,
+        balance: 3,
+    })?;
+    let cash = name(b"MXN".as_slice())?;
+    pairs.push(Pair {
+        asset: cash,
+        balance: 700,
+    })?;
+    Ok(pairs)
+}
+
+#[test]
+fn earmark_takes_from_the_balance(rt: HostRuntime) -> Result<(), Fail> {
+    let mut book = book_with(rt.alloc(), 700)?;
+    let bank = name(b"BANK".as_slice())?;
+    let cash = name(b"MXN".as_slice())?;
+    assert_eq!(rt; book.earmark(bank, cash, 200), Ok(()));
+    assert_eq!(rt; book.earmarked(bank, cash), 200);
+    Ok(())
+}
+
+#[test]
+fn release_gives_back(rt: HostRuntime) -> Result<(), Fail> {
+    let mut book = book_with(rt.alloc(), 700)?;
+    let bank = name(b"BANK".as_slice())?;
+    let cash = name(b"MXN".as_slice())?;
+    book.earmark(bank, cash, 200)?;
+    assert_eq!(rt; book.release(bank, cash, 50), Ok(()));
+    assert_eq!(rt; book.balance(bank, cash), 550);
+    Ok(())
+}
+
+#[test]
+fn room_is_there(rt: HostRuntime) -> Result<(), Fail> {
+    let mut book = Book::new(rt.alloc());
+    assert_eq!(rt; book.reserve(4), Ok(()));
+    Ok(())
+}
+
+#[test]
+fn names_are_readied(rt: HostRuntime) -> Result<(), Fail> {
+    let mut book = Book::new(rt.alloc());
+    let bank = name(b"BANK".as_slice())?;
+    assert_eq!(rt; book.ready_account(bank), Ok(()));
+    assert_eq!(rt; book.ready_asset(bank), Ok(()));
+    Ok(())
+}
+
+#[test]
+fn net_takes_a_move(rt: HostRuntime) -> Result<(), Fail> {
+    let account = name(b"BANK".as_slice())?;
+    let mut net = Net::new(rt.alloc());
+    let item = Move {
+        account,
+        asset: account,
+        delta: -5,
+    };
+    assert_eq!(rt; net.push(item), Ok(()));
+    assert_eq!(rt; net.len(), 1);
+    Ok(())
+}
+
+#[test]
+fn pairs_stand_in_byte_order(rt: HostRuntime) -> Result<(), Fail> {
+    let mut book = book_with(rt.alloc(), 700)?;
+    issue_code(&mut book, b"GOLD".as_slice(), 3)?;
+    let pairs = book.pairs(rt.alloc(), name(b"BANK".as_slice())?)?;
+    assert_eq!(rt; pairs, gold_and_cash(rt.alloc())?);
+    Ok(())
+}
+
+#[test]
+fn a_drawn_balance_is_no_pair(rt: HostRuntime) -> Result<(), Fail> {
+    let mut book = book_with(rt.alloc(), 700)?;
+    let bank = name(b"BANK".as_slice())?;
+    book.draw(bank, name(b"MXN".as_slice())?, 700)?;
+    assert_eq!(rt; book.pairs(rt.alloc(), bank)?, Pairs::new(rt.alloc()));
     Ok(())
 }

@@ -6,7 +6,7 @@ use Rattle.std.proofs.lemmas.List.{take_all, take-append-le, length-append}
 use Rattle.std.proofs.lemmas.Option.{slice_get_within}
 use Rattle.dali_account.specs.declared.net.Move.{Move}
 use Rattle.dali_account.specs.Net.{pair_of}
-use Rattle.dali_account.specs.Units.{Pair}
+use Rattle.dali_account.specs.Units.{PairKey}
 use Rattle.dali_account.proofs.UnitsLemmas.{same_pair, same_pair_is}
 use Rattle.dali_ledger.specs.declared.posting.Posting.{Posting}
 use Rattle.dali_ledger.specs.Postings.{delta_sum, next_posting, with_move, IsSum, IsLedger}
@@ -15,7 +15,7 @@ use Rattle.dali_ledger.proofs.SumLemmas.{sum_moved, sum_other, whole_sum, size_i
 
 -- one more move keeps a ledger
 module _ (ps : List Posting) (command : ℕ) (m : Move) (kept : IsLedger ps) (fits : IsSum (delta_sum ps (pair_of m) +ℤ m.delta)) where
-  pub sum_kept : (pair : Pair) → IsSum (delta_sum (with_move ps command m) pair)
+  pub sum_kept : (pair : PairKey) → IsSum (delta_sum (with_move ps command m) pair)
   sum_kept pair = by (same_pair (pair_of m) pair) refl
     where
       by : (b : Bool) → same_pair (pair_of m) pair ≡ b → IsSum (delta_sum (with_move ps command m) pair)
@@ -25,7 +25,7 @@ module _ (ps : List Posting) (command : ℕ) (m : Move) (kept : IsLedger ps) (fi
   longer : length (with_move ps command m) ≡ length ps + 1
   longer = length-append ps (next_posting ps command m ∷ [])
 
-  sums_kept : (n : ℕ) (pair : Pair) → IsSum (delta_sum (take n (with_move ps command m)) pair)
+  sums_kept : (n : ℕ) (pair : PairKey) → IsSum (delta_sum (take n (with_move ps command m)) pair)
   sums_kept n pair = elim (cases_lt (length ps) n) [
     | inl past ↦ subst (λ qs. IsSum (delta_sum qs pair)) (sym (take_all n (with_move ps command m) (omega (arith, longer, past)))) (sum_kept pair)
     | inr within ↦ subst (λ qs. IsSum (delta_sum qs pair)) (sym (take-append-le n ps (next_posting ps command m ∷ []) within)) (kept.sums n pair)
@@ -56,10 +56,10 @@ module _ (ps : List Posting) (command : ℕ) (m : Move) (kept : IsLedger ps) (fi
   ledger_kept = record { numbers = numbers_kept; afters = afters_kept; sums = sums_kept }
 
   -- and so do the sums beside it
-  pub beside_kept : (es fs : List (Pair × ℕ)) (n : ℕ) → pos n ≡ delta_sum ps (pair_of m) +ℤ m.delta →
-      ((pair : Pair) → pos (sum_in es pair) ≡ delta_sum ps pair) →
-      ((pair : Pair) → lookup (same_pair pair) fs ≡ cond (same_pair (pair_of m) pair) (Some n) (lookup (same_pair pair) es)) →
-      (pair : Pair) → pos (sum_in fs pair) ≡ delta_sum (with_move ps command m) pair
+  pub beside_kept : (es fs : List (PairKey × ℕ)) (n : ℕ) → pos n ≡ delta_sum ps (pair_of m) +ℤ m.delta →
+      ((pair : PairKey) → pos (sum_in es pair) ≡ delta_sum ps pair) →
+      ((pair : PairKey) → lookup (same_pair pair) fs ≡ cond (same_pair (pair_of m) pair) (Some n) (lookup (same_pair pair) es)) →
+      (pair : PairKey) → pos (sum_in fs pair) ≡ delta_sum (with_move ps command m) pair
   beside_kept es fs n is before updated pair = ap (λ (o : Option ℕ). pos (unwrap_or o 0)) (updated pair) ∙ by (same_pair (pair_of m) pair) refl
     where
       by : (b : Bool) → same_pair (pair_of m) pair ≡ b → pos (unwrap_or (cond b (Some n) (lookup (same_pair pair) es)) 0) ≡ delta_sum (with_move ps command m) pair

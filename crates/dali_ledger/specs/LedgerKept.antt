@@ -2,7 +2,7 @@ use Rattle.std.specs.Prelude.{◌≡◌, ℕ, ◌-◌, pos, List, min, unwrap_or
 use Rattle.std.specs.Map.{lookup}
 use Rattle.indexmap.specs.IndexMap.{spare}
 use Rattle.dali_account.specs.Book.{same_name}
-use Rattle.dali_account.specs.Units.{Pair}
+use Rattle.dali_account.specs.Units.{PairKey}
 use Rattle.dali_ledger.specs.Postings.{IsLedger, delta_sum}
 use Rattle.dali_ledger.specs.Ledger.{LedgerState}
 use Rattle.dali_ledger.specs.declared.ledger.Ledger.TheInside.{Inside}
@@ -14,10 +14,10 @@ state_of a = record {
 }
 
 -- the number beside the pair, 0 where there is none
-abbrev pub sum_in : List (Pair × ℕ) → Pair → ℕ
+abbrev pub sum_in : List (PairKey × ℕ) → PairKey → ℕ
 sum_in sums pair = unwrap_or (lookup (λ q. same_name pair.0 q.0 && same_name pair.1 q.1) sums) 0
 
 -- beside each pair stands the sum of its deltas
 pub record IsKept (a : Inside) : Type 0 where
   pub ledger : IsLedger a.postings.items
-  pub sums : (pair : Pair) → pos (sum_in a.sums.entries pair) ≡ delta_sum a.postings.items pair
+  pub sums : (pair : PairKey) → pos (sum_in a.sums.entries pair) ≡ delta_sum a.postings.items pair

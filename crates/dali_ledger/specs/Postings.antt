@@ -3,18 +3,18 @@ use Rattle.dali_account.specs.declared.net.Move.{Move}
 use Rattle.dali_account.specs.Book.{same_name}
 use Rattle.dali_account.specs.Net.{pair_of}
 use Rattle.dali_account.specs.Refusals.{LIMIT}
-use Rattle.dali_account.specs.Units.{Pair}
+use Rattle.dali_account.specs.Units.{PairKey}
 use Rattle.dali_ledger.specs.declared.posting.Posting.{Posting}
 
 -- whether the posting changes the pair (account, asset)
-abbrev pub is_of : Posting → Pair → Bool
+abbrev pub is_of : Posting → PairKey → Bool
 is_of p pair = same_name p.account pair.0 && same_name p.asset pair.1
 
-abbrev pub delta_at : Posting → Pair → ℤ
+abbrev pub delta_at : Posting → PairKey → ℤ
 delta_at p pair = if is_of p pair then p.delta else pos 0
 
 -- the sum of the pair's deltas
-abbrev pub delta_sum : List Posting → Pair → ℤ
+abbrev pub delta_sum : List Posting → PairKey → ℤ
 delta_sum [] pair = pos 0
 delta_sum (p ∷ ps) pair = delta_at p pair +ℤ delta_sum ps pair
 
@@ -45,10 +45,10 @@ pub record IsSum (z : ℤ) : Type 0 where
 pub record IsLedger (ps : List Posting) : Type 0 where
   pub numbers : (k : ℕ) (p : Posting) → slice_get ps k ≡ Some p → p.number ≡ k + 1
   pub afters : (k : ℕ) (p : Posting) → slice_get ps k ≡ Some p → pos p.after ≡ delta_sum (take (k + 1) ps) (p.account, p.asset)
-  pub sums : (n : ℕ) (pair : Pair) → IsSum (delta_sum (take n ps) pair)
+  pub sums : (n : ℕ) (pair : PairKey) → IsSum (delta_sum (take n ps) pair)
 
 -- the posting at place k is the pair's last one
-pub record IsLast (ps : List Posting) (pair : Pair) (k : ℕ) (p : Posting) : Type 0 where
+pub record IsLast (ps : List Posting) (pair : PairKey) (k : ℕ) (p : Posting) : Type 0 where
   pub there : slice_get ps k ≡ Some p
   pub own : IsTrue (is_of p pair)
   pub later : All (λ q. is_of q pair ≡ false) (drop (k + 1) ps)

@@ -3,7 +3,7 @@ ghost use Rattle.std.specs.Int.{FitsUnsigned, w64};
 ghost use Rattle.std.specs.List.{filter};
 ghost use Rattle.dali_account.specs.Book.{same_name};
 ghost use Rattle.dali_account.specs.Net.{IsNet, pair_of, after_move};
-ghost use Rattle.dali_account.specs.Units.{Pair};
+ghost use Rattle.dali_account.specs.Units.{PairKey};
 ghost use Rattle.dali_ledger.specs.Postings.{IsLedger, IsLast, IsSum, delta_sum, with_move, posted};
 
 use crate::posting::{Posting, Postings};
@@ -59,7 +59,7 @@ impl Ledger {
     /// pair's deltas is negative or above 10^18. Takes no memory.
     pub fn post(&mut self, command: u64, net: &Net)
         requires room { length net.now ≤ self.old.spare }
-        requires sums { (pair : Pair) → IsSum (delta_sum (posted self.old.postings command net.now) pair) }
+        requires sums { (pair : PairKey) → IsSum (delta_sum (posted self.old.postings command net.now) pair) }
         ensures postings { self.new.postings ≡ posted self.old.postings command net.now }
         ensures room { self.old.spare ≤ self.new.spare + length net.now }
     {
@@ -70,7 +70,7 @@ impl Ledger {
     fn post_moves(&mut self, command: u64, moves: &[Move])
         requires net { IsNet moves.now }
         requires room { length moves.now ≤ self.old.spare }
-        requires sums { (pair : Pair) → IsSum (delta_sum (posted self.old.postings command moves.now) pair) }
+        requires sums { (pair : PairKey) → IsSum (delta_sum (posted self.old.postings command moves.now) pair) }
         ensures postings { self.new.postings ≡ posted self.old.postings command moves.now }
         ensures room { self.old.spare ≤ self.new.spare + length moves.now }
     {

@@ -2,9 +2,9 @@ ghost use Rattle.std.specs.Prelude.{◌≡◌, ℕ, ◌+◌, ◌<◌, ◌≤◌,
 ghost use Rattle.std.specs.Int.{FitsUnsigned, w64};
 ghost use Rattle.dali_account.specs.Units.{units_of};
 ghost use Rattle.dali_account.specs.AssetList.{prices, total_at};
-ghost use Rattle.dali_account.specs.Book.{same_name, has_asset, knows_pair, held};
+ghost use Rattle.dali_account.specs.Book.{same_name, has_asset, knows_pair, held, total_of};
 ghost use Rattle.dali_account.specs.Refusals.{LIMIT};
-ghost use Rattle.dali_account.specs.Net.{pair_of, after_move, with_move, with_net};
+ghost use Rattle.dali_account.specs.Net.{pair_of, after_move, with_move, with_net, asset_delta};
 
 use crate::assets::Assets;
 use crate::book::Book;
@@ -20,6 +20,7 @@ impl Book {
         requires limit { (asset : List ℕ) → held self.old.book.accounts (with_net self.old.book.balances net.now) self.old.book.earmarks asset ≤ LIMIT }
         requires room { length net.now ≤ self.old.spare_lines }
         ensures book { self.new.book ≡ record self.old.book { balances = with_net self.old.book.balances net.now } }
+        ensures totals { (asset : List ℕ) → pos (total_of self.new.book asset) ≡ (pos (total_of self.old.book asset) +ℤ asset_delta net.now asset) }
         ensures room { self.old.spare_lines ≤ self.new.spare_lines + length net.now }
         ensures readied_account { self.new.readied_account ≡ self.old.readied_account }
         ensures readied_code { self.new.readied_code ≡ self.old.readied_code }

@@ -1,5 +1,5 @@
-ghost use Rattle.std.specs.Prelude.{◌≡◌, ◌≢◌, ◌+◌, ◌<◌, ◌≤◌, Err, IsTrue, IsOk, IsOkUnless, OnOk, OnErr};
-ghost use Rattle.dali_account.specs.Book.{knows_pair, balance_of, earmark_of, total_of, with_pair, issued, drawn, earmarked, released};
+ghost use Rattle.std.specs.Prelude.{◌≡◌, ◌≢◌, ℕ, ◌+◌, ◌<◌, ◌≤◌, List, ◌&&◌, is_ok, if◌then◌else◌, Err, IsTrue, IsOk, IsOkUnless, OnOk, OnErr};
+ghost use Rattle.dali_account.specs.Book.{same_name, knows_pair, balance_of, earmark_of, total_of, with_pair, issued, drawn, after_earmark, after_release};
 ghost use Rattle.dali_account.specs.Refusals.{LIMIT, Answers, issue_refusal, draw_refusal, release_refusal};
 
 use crate::book::{Book, MOST_UNITS};
@@ -20,6 +20,8 @@ impl Book {
     pub fn issue(&mut self, account: Name, asset: Name, quantity: u64) -> Result<(), BookNo>
         ensures refusal { Answers (issue_refusal self.old.book account asset quantity) result }
         ensures ok { OnOk result (self.new.book ≡ issued self.old.book account asset quantity) }
+        ensures total { OnOk result (total_of self.new.book asset ≡ total_of self.old.book asset + quantity) }
+        ensures others { (other : List ℕ) → other ≢ asset → total_of self.new.book other ≡ total_of self.old.book other }
         ensures spare { 0 < self.old.spare_lines → result ≢ Err BookNo.OutOfMemory }
         ensures room { self.old.spare_lines ≤ self.new.spare_lines + 1 }
         ensures err { OnErr result (self.new.book ≡ self.old.book) }
@@ -47,6 +49,8 @@ impl Book {
         ensures refusal { Answers (draw_refusal self.old.book account asset quantity) result }
         ensures memory { result ≢ Err BookNo.OutOfMemory }
         ensures ok { OnOk result (self.new.book ≡ drawn self.old.book account asset quantity) }
+        ensures total { OnOk result (total_of self.new.book asset + quantity ≡ total_of self.old.book asset) }
+        ensures others { (other : List ℕ) → other ≢ asset → total_of self.new.book other ≡ total_of self.old.book other }
         ensures room { self.new.spare_lines ≡ self.old.spare_lines }
         ensures err { OnErr result (self.new.book ≡ self.old.book) }
         ensures readied_account { self.new.readied_account ≡ self.old.readied_account }
@@ -72,7 +76,8 @@ impl Book {
     /// exist, and else with Short where the balance is less than the quantity. At a refusal the book stays as it was.
     pub fn earmark(&mut self, account: Name, asset: Name, quantity: u64) -> Result<(), BookNo>
         ensures refusal { Answers (draw_refusal self.old.book account asset quantity) result }
-        ensures ok { OnOk result (self.new.book ≡ earmarked self.old.book account asset quantity) }
+        ensures ok { OnOk result (self.new.book ≡ after_earmark self.old.book account asset quantity) }
+        ensures totals { (other : List ℕ) → total_of self.new.book other ≡ total_of self.old.book other }
         ensures spare { 0 < self.old.spare_lines → result ≢ Err BookNo.OutOfMemory }
         ensures room { self.old.spare_lines ≤ self.new.spare_lines + 1 }
         ensures err { OnErr result (self.new.book ≡ self.old.book) }
@@ -99,7 +104,8 @@ impl Book {
     /// it was.
     pub fn release(&mut self, account: Name, asset: Name, quantity: u64) -> Result<(), BookNo>
         ensures refusal { Answers (release_refusal self.old.book account asset quantity) result }
-        ensures ok { OnOk result (self.new.book ≡ released self.old.book account asset quantity) }
+        ensures ok { OnOk result (self.new.book ≡ after_release self.old.book account asset quantity) }
+        ensures totals { (other : List ℕ) → total_of self.new.book other ≡ total_of self.old.book other }
         ensures spare { 0 < self.old.spare_lines → result ≢ Err BookNo.OutOfMemory }
         ensures room { self.old.spare_lines ≤ self.new.spare_lines + 1 }
         ensures err { OnErr result (self.new.book ≡ self.old.book) }
@@ -149,6 +155,7 @@ impl Book {
         requires limit { next.total ≤ LIMIT }
         ensures memory { IsOkUnless result BookNo.OutOfMemory }
         ensures ok { OnOk result (self.new.book ≡ with_pair self.old.book account asset next.balance next.earmark) }
+        ensures totals { (other : List ℕ) → total_of self.new.book other ≡ (if is_ok result && same_name other asset then next.total else total_of self.old.book other) }
         ensures spare { 0 < self.old.spare_lines → IsOk result }
         ensures room { self.old.spare_lines ≤ self.new.spare_lines + 1 }
         ensures err { OnErr result (self.new.book ≡ self.old.book) }
@@ -173,6 +180,7 @@ impl Book {
         requires limit { next.total ≤ LIMIT }
         ensures memory { IsOkUnless result BookNo.OutOfMemory }
         ensures ok { OnOk result (self.new.book ≡ with_pair self.old.book account asset next.balance next.earmark) }
+        ensures totals { (other : List ℕ) → total_of self.new.book other ≡ (if is_ok result && same_name other asset then next.total else total_of self.old.book other) }
         ensures spare { 0 < self.old.spare_lines → IsOk result }
         ensures room { self.old.spare_lines ≤ self.new.spare_lines + 1 }
         ensures err { OnErr result (self.new.book ≡ self.old.book) }
@@ -197,6 +205,7 @@ impl Book {
         requires moved { next.balance + next.earmark + total_of self.old.book asset ≡ balance_of self.old.book account asset + earmark_of self.old.book account asset + next.total }
         requires limit { next.total ≤ LIMIT }
         ensures book { self.new.book ≡ with_pair self.old.book account asset next.balance next.earmark }
+        ensures totals { (other : List ℕ) → total_of self.new.book other ≡ (if same_name other asset then next.total else total_of self.old.book other) }
         ensures room { self.new.spare_lines ≡ self.old.spare_lines }
         ensures readied_account { self.new.readied_account ≡ self.old.readied_account }
         ensures readied_code { self.new.readied_code ≡ self.old.readied_code }

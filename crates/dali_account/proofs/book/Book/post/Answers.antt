@@ -1,12 +1,13 @@
-use Rattle.std.proofs.Common.{◌≡◌, ◌<◌, ◌+◌, ◌≤◌, ℕ, List, length, drop, refl, sym, ◌∙◌, subst, arith, true, pos, ◌+ℤ◌, ◌≤ℤ◌}
+use Rattle.std.proofs.Common.{◌≡◌, ◌<◌, ◌+◌, ◌≤◌, ℕ, List, [], length, drop, refl, sym, ap, ◌∙◌, subst, arith, true, pos, ◌+ℤ◌, ◌≤ℤ◌}
+use Rattle.std.proofs.lemmas.List.{drop_all}
 use Rattle.std.specs.Prelude.{All}
 use Rattle.dali_account.specs.declared.net.Move.{Move}
 use Rattle.dali_account.specs.Units.{Units, units_of}
-use Rattle.dali_account.specs.Book.{BookState, knows_pair, held}
+use Rattle.dali_account.specs.Book.{BookState, knows_pair, held, total_of}
 use Rattle.dali_account.specs.Refusals.{LIMIT}
 use Rattle.dali_account.specs.AssetList.{prices}
-use Rattle.dali_account.specs.Net.{IsNet, pair_of, with_net}
-use Rattle.dali_account.proofs.MidwayLemmas.{Midway, next_rest, midway_start, midway_more, units_fit, total_fits}
+use Rattle.dali_account.specs.Net.{IsNet, pair_of, with_net, asset_delta}
+use Rattle.dali_account.proofs.MidwayLemmas.{Midway, next_rest, midway_start, midway_more, midway_totals, units_fit, total_fits}
 use Rattle.dali_account.proofs.book.Book.post.Goals as goal
 
 pub loop-item-init : goal.loop-item-init
@@ -51,3 +52,15 @@ loop-item-preserved c =
       spare = omega (arith, c.add_move.ensures.room, c.loop-item.invariant.spare);
       midway = subst (λ (b : Units). Midway c.self.inside.accounts.names (prices c.self.inside.assets.listings) c.self.inside.earmarks.units c.add_move.new.assets c.self.inside.balances.units b c.moves-item-items.result.now (drop (c.loop-item.item-index + 1) c.moves-item-items.result.now)) (sym c.add_move.ensures.balances) more;
     }
+
+pub returns-clause-totals : goal.returns-clause-totals
+returns-clause-totals c asset =
+    let mid : Midway c.self.inside.accounts.names (prices c.self.inside.assets.listings) c.self.inside.earmarks.units c.loop-item.self-inside.assets c.self.inside.balances.units c.loop-item.self-inside.balances.units c.moves-item-items.result.now [] =
+    subst (Midway c.self.inside.accounts.names (prices c.self.inside.assets.listings) c.self.inside.earmarks.units c.loop-item.self-inside.assets c.self.inside.balances.units c.loop-item.self-inside.balances.units c.moves-item-items.result.now)
+    (drop_all c.loop-item.item-index c.moves-item-items.result.now (omega arith)) c.loop-item.invariant.midway in
+    let start : held c.self.inside.accounts.names c.self.inside.balances.units c.self.inside.earmarks.units asset ≡ total_of c.args.self.now.book asset =
+    ap (λ (s : BookState). total_of s.book asset) c.self.view_is in
+    rw (c.loop-item.invariant.accounts, c.loop-item.invariant.earmarks)
+    (midway_totals c.self.inside.accounts.names (prices c.self.inside.assets.listings) c.loop-item.self-inside.assets c.self.inside.earmarks.units c.self.inside.balances.units c.loop-item.self-inside.balances.units c.moves-item-items.result.now mid asset
+    ∙ ap (λ n. pos n +ℤ asset_delta c.moves-item-items.result.now asset) start
+    ∙ ap (λ (ms : List Move). pos (total_of c.args.self.now.book asset) +ℤ asset_delta ms asset) c.moves-item-items.ensures.moves)

@@ -1,0 +1,11 @@
+use dali_base::{Name, Seq};
+
+/// The units of an asset that an account holds free, without what it has earmarked.
+#[derive(Clone, Copy, Debug, PartialEq, Eq)]
+pub struct Pair {
+    pub asset: Name,
+    pub balance: u64,
+}
+
+/// A list of pairs.
+pub type Pairs = Seq<Pair>;
