@@ -3,3 +3,14 @@ pub mod Regroup
 pub mod Whole
 pub mod Bends
 pub mod Weak
+pub mod Bounds
+pub mod Touching
+pub mod Shifts
+pub mod Moved
+pub mod Zero
+pub mod KeptLaws
+pub mod Gains
+pub mod Starts
+pub mod SettledLaws
+pub mod Downward
+pub mod Lists

@@ -1,5 +1,5 @@
 use Rattle.std.specs.Prelude.{ℕ, ℤ, pos, ◌+ℤ◌, ◌*ℤ◌, List, length}
-use Rattle.std.specs.Int.{int_max}
+use Rattle.std.specs.Int.{int_max, int_div_euclid}
 use Rattle.dali_problem.specs.declared.mark.Mark.{Mark}
 use Rattle.dali_problem.specs.Sums.{sum_below, pick}
 use Rattle.dali_problem.specs.Clearing.{Clearing, worth, effect}
@@ -16,6 +16,10 @@ sum_of p f lam =
     pos 4096 *ℤ sum_below (λ j. pick (is_chosen (mark f j)) (pos (worth p j))) (length p.items)
     +ℤ sum_below (λ l. pos (lam l) *ℤ held p f l) (length p.lines)
     +ℤ sum_below (λ j. pick (is_undecided (mark f j)) (int_max (pos 0) (reduced p lam j))) (length p.items)
+
+-- the bound that a Sum gives, in centavos: the floor of its 4,096th part, also where it is below 0
+abbrev pub bound_of : ℤ → ℤ
+bound_of s = int_div_euclid s (pos 4096)
 
 -- what a place with this mark and this reduced value counts, where each line counts its balance alone
 abbrev pub counted : Mark → ℤ → ℤ

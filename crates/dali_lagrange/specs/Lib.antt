@@ -1,3 +1,9 @@
 pub mod Multipliers
 pub mod Bound
 pub mod Best
+pub mod Settled
+pub mod Still
+pub mod Touched
+pub mod Listed
+pub mod KeptSum
+pub mod KeptSumLayout

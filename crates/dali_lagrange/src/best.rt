@@ -8,7 +8,7 @@ use crate::total::sum_at;
 use dali_problem::{Partial, Problem};
 
 /// The greatest multiplier.
-const MOST: u64 = 1 << 44;
+pub(crate) const MOST: u64 = 1 << 44;
 
 /// The least of the multipliers from 0 to 2^44 that give the smallest Sum, with those of the other lines kept.
 pub fn best_at(problem: &Problem, partial: &Partial, point: &Point, line: u32) -> u64
@@ -45,7 +45,7 @@ fn is_rising(problem: &Problem, partial: &Partial, point: &Point, line: u32, at:
 }
 
 #[tactic(auto, using(std::proofs::lemmas::Int::ints))]
-fn is_at_most(sum: &i128, other: &i128) -> bool
+pub(crate) fn is_at_most(sum: &i128, other: &i128) -> bool
     ensures { IsTrue result ↔ (sum.now ≤ℤ other.now) }
 {
     *sum <= *other

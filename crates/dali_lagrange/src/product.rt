@@ -1,8 +1,12 @@
-ghost use Rattle.std.specs.Prelude.{◌≡◌, ◌*◌, ◌^◌, ◌≤◌, ℤ, pos, ◌+ℤ◌, ◌*ℤ◌};
+ghost use Rattle.std.specs.Prelude.{◌≡◌, ◌*◌, ◌^◌, ◌≤◌, ℤ, pos, ◌+ℤ◌, ◌-ℤ◌, ◌*ℤ◌};
 ghost use Rattle.dali_problem.specs.Limits.{Within};
+ghost use Rattle.dali_problem.specs.Sums.{pick};
 ghost use Rattle.dali_lagrange.specs.Bound.{counted};
 
 use dali_problem::{Effect, Mark};
+
+/// The scale of multipliers: this many to the centavo.
+pub(crate) const SCALE: u64 = 4096;
 
 /// A multiplier times an effect's amount.
 #[tactic(auto, using(std::proofs::lemmas::Int::ints))]
@@ -24,12 +28,22 @@ pub(crate) fn scaled(factor: u64, amount: u64) -> i128
 
 /// The total with this number added.
 #[tactic(auto, using(std::proofs::lemmas::Int::ints))]
-fn plus(total: &mut i128, z: &i128)
+pub(crate) fn plus(total: &mut i128, z: &i128)
     requires total { Within (2 ^ 125) total.old }
     requires more { Within (2 ^ 125) z.now }
     ensures { total.new ≡ total.old +ℤ z.now }
 {
     *total += *z;
+}
+
+/// The total with this number taken out.
+#[tactic(auto, using(std::proofs::lemmas::Int::ints))]
+fn minus(total: &mut i128, z: &i128)
+    requires total { Within (2 ^ 125) total.old }
+    requires less { Within (2 ^ 125) z.now }
+    ensures { total.new ≡ total.old -ℤ z.now }
+{
+    *total -= *z;
 }
 
 /// Adds a multiplier times a balance.
@@ -54,20 +68,67 @@ pub(crate) fn add_weighted(total: &mut i128, factor: u64, effect: &Effect)
     plus(total, &more);
 }
 
-/// Adds what a place with this mark and this reduced value counts.
+/// Whether a place with this mark and this reduced value counts.
 #[tactic(auto, using(std::proofs::lemmas::Int::ints, std::proofs::lemmas::Int::clamps))]
+fn counts(mark: Mark, worth: &i128) -> bool
+    ensures { counted mark worth.now ≡ pick result worth.now }
+{
+    match mark {
+        Mark::Chosen => true,
+        Mark::Undecided => *worth > 0,
+        Mark::Stranger | Mark::Left => false,
+    }
+}
+
+/// Adds what a place with this mark and this reduced value counts.
+#[tactic(auto, using(std::proofs::lemmas::Int::ints))]
 pub(crate) fn add_counted(total: &mut i128, mark: Mark, worth: &i128)
     requires total { Within (2 ^ 125) total.old }
     requires worth { Within (2 ^ 125) worth.now }
     ensures { total.new ≡ total.old +ℤ counted mark worth.now }
 {
-    match mark {
-        Mark::Chosen => plus(total, worth),
-        Mark::Undecided => {
-            if *worth > 0 {
-                plus(total, worth);
-            }
-        }
-        Mark::Stranger | Mark::Left => {}
+    if counts(mark, worth) {
+        plus(total, worth);
     }
+}
+
+/// Takes out what a place with this mark and this reduced value counts.
+#[tactic(auto, using(std::proofs::lemmas::Int::ints))]
+pub(crate) fn take_counted(total: &mut i128, mark: Mark, worth: &i128)
+    requires total { Within (2 ^ 125) total.old }
+    requires worth { Within (2 ^ 125) worth.now }
+    ensures { total.new ≡ total.old -ℤ counted mark worth.now }
+{
+    if counts(mark, worth) {
+        minus(total, worth);
+    }
+}
+
+/// Takes out what a place with this reduced value counts under one mark, and adds what it counts under another.
+pub(crate) fn recount(total: &mut i128, from: Mark, to: Mark, worth: &i128)
+    requires total { Within (2 ^ 124) total.old }
+    requires worth { Within (2 ^ 124) worth.now }
+    ensures { total.new ≡ total.old +ℤ (counted to worth.now -ℤ counted from worth.now) }
+{
+    add_counted(total, to, worth);
+    take_counted(total, from, worth);
+}
+
+/// A multiplier's rise times a balance.
+#[tactic(auto, using(std::proofs::lemmas::Int::ints))]
+fn rise_of(by: &i64, amount: u64) -> i128
+    ensures { result ≡ by.now *ℤ pos amount }
+{
+    i128::from(*by) * i128::from(amount)
+}
+
+/// Adds a multiplier's rise times a balance.
+pub(crate) fn add_balance(total: &mut i128, by: &i64, amount: u64)
+    requires total { Within (2 ^ 124) total.old }
+    requires by { Within (2 ^ 44) by.now }
+    requires amount { amount ≤ 2 ^ 60 }
+    ensures { total.new ≡ total.old +ℤ by.now *ℤ pos amount }
+{
+    let more = rise_of(by, amount);
+    plus(total, &more);
 }

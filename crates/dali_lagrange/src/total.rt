@@ -1,4 +1,4 @@
-ghost use Rattle.std.specs.Prelude.{◌≡◌, ◌*◌, ◌^◌, ◌<◌, ◌≤◌, ℤ, pos, ◌+ℤ◌, ◌*ℤ◌, length, slice_index};
+ghost use Rattle.std.specs.Prelude.{◌≡◌, ◌-◌, ◌*◌, ◌^◌, ◌<◌, ◌≤◌, ℤ, pos, ◌+ℤ◌, ◌*ℤ◌, length, slice_index};
 ghost use Rattle.std.specs.Int.{int_max};
 ghost use Rattle.std.specs.Prelude.{List, ℕ, ◌≤ℤ◌};
 ghost use Rattle.dali_problem.specs.Feasible.{ArePlaces, IsFeasible, value_of};
@@ -11,11 +11,8 @@ ghost use Rattle.dali_lagrange.specs.Bound.{reduced, sum_of, counted};
 
 use crate::point::Point;
 use crate::probe::Probe;
-use crate::product::{add_counted, add_scaled, add_weighted, scaled};
+use crate::product::{SCALE, add_counted, add_scaled, add_weighted, scaled};
 use dali_problem::{Effect, Partial, Problem};
-
-/// The scale of multipliers: this many to the centavo.
-const SCALE: u64 = 4096;
 
 /// The Sum of a partial choice at a point: 4,096 times an upper bound on what any feasible set that agrees is worth.
 /// It is below 2^117 in size.
@@ -23,7 +20,7 @@ pub fn sum(problem: &Problem, partial: &Partial, point: &Point) -> i128
     requires partial { IsOf problem.now partial.now }
     requires point { length point.now ≡ length problem.now.lines }
     ensures exact { result ≡ sum_of problem.now partial.now.marks (slice_index point.now) }
-    ensures bounded { Within (2 ^ 117) result }
+    ensures bounded { Within (2 ^ 117 - 1) result }
     ensures bound { (t : List ℕ) → ArePlaces problem.now t → IsFeasible problem.now t → Agrees partial.now.marks t → pos (4096 * value_of problem.now t) ≤ℤ result }
 {
     sum_at(problem, partial, &Probe::of(point))
@@ -34,7 +31,7 @@ pub(crate) fn sum_at(problem: &Problem, partial: &Partial, point: &Probe) -> i12
     requires partial { IsOf problem.now partial.now }
     requires point { length point.now ≡ length problem.now.lines }
     ensures exact { result ≡ sum_of problem.now partial.now.marks (slice_index point.now) }
-    ensures bounded { Within (2 ^ 117) result }
+    ensures bounded { Within (2 ^ 117 - 1) result }
 {
     let mut total = 0;
     add_lines(problem, point, &mut total);
@@ -62,7 +59,7 @@ fn add_places(problem: &Problem, partial: &Partial, point: &Probe, total: &mut i
     ensures exact { total.new
         ≡ total.old
         +ℤ sum_below (λ j. counted (mark partial.now.marks j) (reduced problem.now (slice_index point.now) j)) (length problem.now.items) }
-    ensures bounded { Within (2 ^ 117) total.new }
+    ensures bounded { Within (2 ^ 117 - 1) total.new }
 {
     for place in 0..problem.items() {
         let worth = reduced_at(problem, point, place);
