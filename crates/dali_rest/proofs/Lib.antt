@@ -1,0 +1,5 @@
+pub mod Marks
+pub mod Sides
+pub mod Standing
+pub mod Resting
+pub mod Rests
