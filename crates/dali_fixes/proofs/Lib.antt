@@ -1,0 +1,3 @@
+pub mod Undoing
+pub mod Sets
+pub mod Exchange

@@ -1,0 +1,24 @@
+use Rattle.std.proofs.Common.{◌≡◌, ◌<◌, length, get_or, true, refl, sym, ◌∙◌}
+use Rattle.dali_tree.specs.declared.fix.Fix.{Fix}
+use Rattle.dali_tree.specs.declared.fix.Fix.TheVariants.{Barred}
+use Rattle.dali_fixes.proofs.Undoing.{undone_step, members_step, after_step}
+use Rattle.dali_fixes.proofs.steps.apply.Goals as goal
+
+pub loop-taken-preserved : goal.loop-taken-preserved
+loop-taken-preserved c =
+    let d : Fix = Barred 0 0 in
+    let at = c.loop-taken.taken in
+    let fix : Fix = get_or c.args.fixes.now at d in
+    let within : at < length c.args.fixes.now = c.loop-taken-test.true in
+    let told : c.take_one.result ≡ true = c.if-not-take_one.false in
+    let was = c.take_one.ensures.undecided told in
+    let is = c.take_one.ensures.taken told in
+    record {
+      of = c.take_one.ensures.of;
+      rest = after_step c.args.problem.now c.args.fixes.now at d fix c.loop-taken.partial.marks c.take_one.new.partial.marks within refl
+          (sym c.take_one.ensures.told ∙ told) is ∙ c.loop-taken.invariant.rest;
+      back = undone_step c.args.fixes.now at d fix c.args.partial.now.marks c.loop-taken.partial.marks c.take_one.new.partial.marks within refl was is
+          c.loop-taken.invariant.back;
+      members = members_step c.args.fixes.now at d fix c.loop-taken.partial.marks c.take_one.new.partial.marks within refl was is
+          c.loop-taken.invariant.members;
+    }

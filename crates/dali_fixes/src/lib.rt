@@ -1,0 +1,9 @@
+//! The fixes of one node of a certificate tree: what it means that they hold, one after the other, and where they lead.
+//!
+//! The promise to the crates above: fixes are applied to a partial choice exactly as `specs/Fixed.antt` defines, and
+//! taken back so that the partial choice is as before. Lines and places are counted from 0.
+#![tactic(auto)]
+
+mod steps;
+
+pub use steps::{apply, undo};
