@@ -1,0 +1,143 @@
+ghost use Rattle.std.specs.Prelude.{◌≡◌, ℕ, ◌+◌, ◌*◌, ◌<◌, ◌≤◌, ◌^◌, pos, Bool, List, length, IsTrue, slice_set, if◌then◌else◌};
+ghost use Rattle.std.specs.Int.Signed.{lt_z};
+ghost use Rattle.dali_problem.specs.declared.mark.Mark.TheVariants.{Undecided, Chosen, Left};
+ghost use Rattle.dali_problem.specs.Feasible.{ArePlaces, IsFeasible, value_of};
+ghost use Rattle.dali_problem.specs.Limits.{Within};
+ghost use Rattle.dali_problem.specs.Rest.{IsPart};
+ghost use Rattle.dali_problem.specs.Partial.{mark};
+ghost use Rattle.dali_problem.specs.Kept.{IsOf};
+ghost use Rattle.dali_tree.specs.Fits.{PartFits, lam_fits, tree_fits};
+ghost use Rattle.dali_check.specs.Proves.{closes, proves_tree, proves_part};
+ghost use Rattle.dali_check.specs.Ends.{ends_fit, proves_ends};
+ghost use Rattle.dali_check.specs.Room.{IsFor};
+
+use crate::members::{enter, leave};
+use crate::scratch::Scratch;
+use dali_fixes::{apply, undo};
+use dali_lagrange::{Point, sum};
+use dali_problem::{Partial, Problem};
+use dali_tree::{End, Lam, Part, Tree};
+
+/// Whether the part's tree proves its bound, with its members all undecided. Takes no memory.
+///
+/// Where it does, no feasible set of the part's members is worth more than the bound, in centavos.
+pub fn proves(problem: &Problem, part: &Part, scratch: &mut Scratch) -> bool
+    requires made { IsFor problem.now scratch.old }
+    requires fits { PartFits (length problem.now.items) (length problem.now.lines) part.now }
+    ensures answer { result ≡ proves_part problem.now part.now }
+    ensures bound { IsTrue result → (t : List ℕ) → ArePlaces problem.now t → IsFeasible problem.now t → IsPart t part.now.members →
+        value_of problem.now t ≤ part.now.bound }
+    ensures made { IsFor problem.now scratch.new }
+{
+    let _items = problem.items();
+    let members = part.members.as_slice();
+    enter(problem, members, &mut scratch.partial);
+    let proved = node(
+        problem,
+        part.bound,
+        &part.tree,
+        &mut scratch.partial,
+        &mut scratch.point,
+    );
+    leave(problem, members, &mut scratch.partial);
+    proved
+}
+
+/// Whether a tree proves the bound at a partial choice, which is put back.
+#[cycle(proves)]
+fn node(
+    problem: &Problem,
+    bound: u64,
+    tree: &Tree,
+    partial: &mut Partial,
+    point: &mut Point,
+) -> bool
+    requires of { IsOf problem.now partial.old }
+    requires point { length point.old ≡ length problem.now.lines }
+    requires fits { IsTrue (tree_fits (length problem.now.items) (length problem.now.lines) tree.now) }
+    ensures answer { result ≡ proves_tree problem.now bound tree.now partial.old.marks }
+    ensures of { IsOf problem.now partial.new }
+    ensures marks { partial.new.marks ≡ partial.old.marks }
+    ensures point { length point.new ≡ length point.old }
+{
+    let fixes = tree.fixes.as_slice();
+    let taken = apply(problem, fixes, partial);
+    let proved = taken == fixes.len() && end(problem, bound, &tree.end, partial, point);
+    undo(problem, &fixes[..taken], partial);
+    proved
+}
+
+/// Whether an end proves the bound at a partial choice, which is put back.
+#[cycle(proves)]
+fn end(problem: &Problem, bound: u64, end: &End, partial: &mut Partial, point: &mut Point) -> bool
+    requires of { IsOf problem.now partial.old }
+    requires point { length point.old ≡ length problem.now.lines }
+    requires fits { IsTrue (ends_fit (length problem.now.items) (length problem.now.lines) end.now) }
+    ensures answer { result ≡ proves_ends problem.now bound end.now partial.old.marks }
+    ensures of { IsOf problem.now partial.new }
+    ensures marks { partial.new.marks ≡ partial.old.marks }
+    ensures point { length point.new ≡ length point.old }
+{
+    match end {
+        End::Bound { lam } => closes(problem, bound, lam, partial, point),
+        End::Short { line } => partial.is_short(*line),
+        End::Branch {
+            place,
+            inside,
+            outside,
+            ..
+        } => {
+            partial.mark(*place).is_undecided()
+                && side(problem, bound, inside.get(), *place, true, partial, point)
+                && side(problem, bound, outside.get(), *place, false, partial, point)
+        }
+    }
+}
+
+/// Whether a tree proves the bound with this place chosen, or left.
+#[cycle(proves)]
+fn side(
+    problem: &Problem,
+    bound: u64,
+    tree: &Tree,
+    place: u32,
+    chosen: bool,
+    partial: &mut Partial,
+    point: &mut Point,
+) -> bool
+    requires of { IsOf problem.now partial.old }
+    requires point { length point.old ≡ length problem.now.lines }
+    requires fits { IsTrue (tree_fits (length problem.now.items) (length problem.now.lines) tree.now) }
+    requires undecided { mark partial.old.marks place ≡ Undecided }
+    ensures answer { result ≡ proves_tree problem.now bound tree.now (slice_set partial.old.marks place (if chosen then Chosen else Left)) }
+    ensures of { IsOf problem.now partial.new }
+    ensures marks { partial.new.marks ≡ partial.old.marks }
+    ensures point { length point.new ≡ length point.old }
+{
+    partial.fix(problem, place, chosen);
+    let proved = node(problem, bound, tree, partial, point);
+    partial.free(problem, place);
+    proved
+}
+
+/// Whether the Sum at these multipliers closes an end.
+#[tactic(auto, unfolding(crate::specs::Proves::closes))]
+fn closes(problem: &Problem, bound: u64, lam: &Lam, partial: &Partial, point: &mut Point) -> bool
+    requires of { IsOf problem.now partial.now }
+    requires point { length point.old ≡ length problem.now.lines }
+    requires fits { IsTrue (lam_fits (length problem.now.lines) lam.now) }
+    ensures answer { result ≡ closes problem.now bound lam.now partial.now.marks }
+    ensures point { length point.new ≡ length point.old }
+{
+    point.load(lam);
+    is_below(&sum(problem, partial, point), bound)
+}
+
+/// Whether a Sum is below the least one that the bound doesn't cover.
+#[tactic(auto, using(std::proofs::lemmas::Int::ints))]
+fn is_below(sum: &i128, bound: u64) -> bool
+    requires { Within (2 ^ 117) sum.now }
+    ensures { result ≡ lt_z sum.now (pos (4096 * (bound + 1))) }
+{
+    *sum < 4096 * (i128::from(bound) + 1)
+}
