@@ -1,0 +1,4 @@
+pub mod EntryLemmas
+pub mod ChangeLemmas
+pub mod QueueLemmas
+pub mod NetLemmas

@@ -1,0 +1,10 @@
+pub mod Instruction
+pub mod Cutoffs
+pub mod Queue
+pub mod Groups
+pub mod Limits
+pub mod NetOf
+pub mod Changed
+pub mod Room
+pub mod EntryList
+pub mod Kept
