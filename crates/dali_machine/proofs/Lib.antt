@@ -1,0 +1,12 @@
+pub mod Allowed
+pub mod Machines
+pub mod Entering
+pub mod Opening
+pub mod Booking
+pub mod UnitVerbs
+pub mod NetFor
+pub mod Placing
+pub mod Shortness
+pub mod Settling
+pub mod Committing
+pub mod SettleNet

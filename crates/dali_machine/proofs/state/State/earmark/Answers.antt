@@ -1,0 +1,56 @@
+use Rattle.std.proofs.Common.{◌≡◌, pos, neg_ℤ, length, List, sym, ap, ◌∙◌, subst, arith}
+use Rattle.std.specs.Result.{OnOk}
+use Rattle.dali_account.specs.declared.net.Move.{Move}
+use Rattle.dali_account.specs.Book.{after_earmark}
+use Rattle.dali_account.specs.Refusals.{draw_refusal}
+use Rattle.dali_line.specs.declared.command.Verb.TheVariants as verbs
+use Rattle.dali_machine.specs.Machine.{StateRecord}
+use Rattle.dali_machine.specs.StateKept.{machine_of, state_of}
+use Rattle.dali_machine.specs.Effects.{accepted, one_move}
+use Rattle.dali_machine.specs.Ready.{MayTake, HasNetFor}
+use Rattle.dali_machine.proofs.Booking.{IsBooked, sums_fit, machine_booked}
+use Rattle.dali_machine.proofs.Allowed.{answered_ok, earmark_allowed}
+use Rattle.dali_machine.proofs.UnitVerbs.{done_as, earmark_booked, earmark_effect, earmark_net}
+use Rattle.dali_machine.proofs.state.State.earmark.Goals as goal
+
+pub unwrap-requires : goal.unwrap-requires
+unwrap-requires c =
+    let take : MayTake (state_of c.self.inside) (verbs.Earmark c.args.account c.args.asset c.args.quantity) = subst (λ s. MayTake s (verbs.Earmark c.args.account c.args.asset c.args.quantity)) (sym c.self.view_is) c.requires.take in
+    let net : HasNetFor (state_of c.self.inside) (verbs.Earmark c.args.account c.args.asset c.args.quantity) c.args.net.now = subst (λ s. HasNetFor s (verbs.Earmark c.args.account c.args.asset c.args.quantity) c.args.net.now) (sym c.self.view_is) c.requires.net in
+    let one : length c.args.net.now ≡ 1 = ap length (net.is ∙ earmark_net (machine_of c.self.inside) take.moment c.args.account c.args.asset c.args.quantity) in
+    answered_ok c.earmark.result (draw_refusal c.self.inside.book.book c.args.account c.args.asset c.args.quantity)
+    (earmark_allowed (machine_of c.self.inside) take.moment c.args.account c.args.asset c.args.quantity take.allowed) c.earmark.ensures.refusal (c.earmark.ensures.spare (omega (arith, one, net.lines)))
+
+pub post-requires-clause-sums : goal.post-requires-clause-sums
+post-requires-clause-sums c =
+    let take : MayTake (state_of c.self.inside) (verbs.Earmark c.args.account c.args.asset c.args.quantity) = subst (λ s. MayTake s (verbs.Earmark c.args.account c.args.asset c.args.quantity)) (sym c.self.view_is) c.requires.take in
+    let net : HasNetFor (state_of c.self.inside) (verbs.Earmark c.args.account c.args.asset c.args.quantity) c.args.net.now = subst (λ s. HasNetFor s (verbs.Earmark c.args.account c.args.asset c.args.quantity) c.args.net.now) (sym c.self.view_is) c.requires.net in
+    let is : c.args.net.now ≡ one_move c.args.account c.args.asset (neg_ℤ (pos c.args.quantity)) = net.is ∙ earmark_net (machine_of c.self.inside) take.moment c.args.account c.args.asset c.args.quantity in
+    let book : c.earmark.new.self.book ≡ after_earmark c.self.inside.book.book c.args.account c.args.asset c.args.quantity =
+    subst (λ r. OnOk r (c.earmark.new.self.book ≡ after_earmark c.self.inside.book.book c.args.account c.args.asset c.args.quantity)) c.unwrap.ensures c.earmark.ensures.ok in
+    let done : IsBooked (machine_of c.self.inside) c.earmark.new.self.book c.args.net.now =
+    subst (λ (net : List Move). IsBooked (machine_of c.self.inside) c.earmark.new.self.book net) (sym is)
+    (earmark_booked (machine_of c.self.inside) take.moment c.args.account c.args.asset c.args.quantity c.earmark.new.self.book c.self.invariant take.allowed book c.earmark.ensures.totals) in
+    sums_fit (machine_of c.self.inside) c.self.invariant c.self.inside.commands c.earmark.new.self.book c.args.net.now done
+
+pub invariant_of-self : goal.invariant_of-self
+invariant_of-self c =
+    let take : MayTake (state_of c.self.inside) (verbs.Earmark c.args.account c.args.asset c.args.quantity) = subst (λ s. MayTake s (verbs.Earmark c.args.account c.args.asset c.args.quantity)) (sym c.self.view_is) c.requires.take in
+    let net : HasNetFor (state_of c.self.inside) (verbs.Earmark c.args.account c.args.asset c.args.quantity) c.args.net.now = subst (λ s. HasNetFor s (verbs.Earmark c.args.account c.args.asset c.args.quantity) c.args.net.now) (sym c.self.view_is) c.requires.net in
+    let is : c.args.net.now ≡ one_move c.args.account c.args.asset (neg_ℤ (pos c.args.quantity)) = net.is ∙ earmark_net (machine_of c.self.inside) take.moment c.args.account c.args.asset c.args.quantity in
+    let book : c.earmark.new.self.book ≡ after_earmark c.self.inside.book.book c.args.account c.args.asset c.args.quantity =
+    subst (λ r. OnOk r (c.earmark.new.self.book ≡ after_earmark c.self.inside.book.book c.args.account c.args.asset c.args.quantity)) c.unwrap.ensures c.earmark.ensures.ok in
+    let done : IsBooked (machine_of c.self.inside) c.earmark.new.self.book c.args.net.now =
+    subst (λ (net : List Move). IsBooked (machine_of c.self.inside) c.earmark.new.self.book net) (sym is)
+    (earmark_booked (machine_of c.self.inside) take.moment c.args.account c.args.asset c.args.quantity c.earmark.new.self.book c.self.invariant take.allowed book c.earmark.ensures.totals) in
+    machine_booked (machine_of c.self.inside) c.self.invariant c.self.inside.commands c.earmark.new.self.book c.args.net.now done c.self.inside.queue.queue c.post.new.self.postings c.post.ensures.postings c.self.invariant.known
+
+pub returns : goal.returns
+returns c =
+    let net : HasNetFor (state_of c.self.inside) (verbs.Earmark c.args.account c.args.asset c.args.quantity) c.args.net.now = subst (λ s. HasNetFor s (verbs.Earmark c.args.account c.args.asset c.args.quantity) c.args.net.now) (sym c.self.view_is) c.requires.net in
+    let book : c.earmark.new.self.book ≡ after_earmark c.self.inside.book.book c.args.account c.args.asset c.args.quantity =
+    subst (λ r. OnOk r (c.earmark.new.self.book ≡ after_earmark c.self.inside.book.book c.args.account c.args.asset c.args.quantity)) c.unwrap.ensures c.earmark.ensures.ok in
+    done_as (machine_of c.self.inside) (verbs.Earmark c.args.account c.args.asset c.args.quantity) c.earmark.new.self.book (after_earmark c.self.inside.book.book c.args.account c.args.asset c.args.quantity)
+    c.args.net.now (one_move c.args.account c.args.asset (neg_ℤ (pos c.args.quantity))) c.post.new.self.postings (earmark_effect (machine_of c.self.inside) 0 c.args.account c.args.asset c.args.quantity) book
+    (net.is ∙ earmark_net (machine_of c.self.inside) 0 c.args.account c.args.asset c.args.quantity) c.post.ensures.postings
+    ∙ ap (λ (s : StateRecord). accepted s.machine (verbs.Earmark c.args.account c.args.asset c.args.quantity)) c.self.view_is

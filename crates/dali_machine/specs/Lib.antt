@@ -1,0 +1,9 @@
+pub mod Machine
+pub mod Kept
+pub mod StateKept
+pub mod Refusals
+pub mod Effects
+pub mod Outcomes
+pub mod Step
+pub mod History
+pub mod Ready

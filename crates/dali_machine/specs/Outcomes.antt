@@ -1,0 +1,20 @@
+use Rattle.std.specs.List.{filter}
+use Rattle.dali_account.specs.Book.{same_name}
+use Rattle.dali_account.specs.Pairs.{pairs_of}
+use Rattle.dali_statement.specs.Rows.{waiting_rows, held_ids}
+use Rattle.dali_line.specs.declared.command.Verb.{Verb}
+use Rattle.dali_line.specs.declared.command.Verb.TheVariants as verbs
+use Rattle.dali_machine.specs.Machine.{Machine}
+use Rattle.dali_machine.specs.declared.outcome.Code.{Code}
+use Rattle.dali_machine.specs.declared.outcome.Outcome.{Outcome}
+use Rattle.dali_machine.specs.declared.outcome.Outcome.TheVariants.{Done, No, Queue, Stat, Ledger}
+
+abbrev pub refused : Code → Outcome
+refused code = No code
+
+-- what an accepted verb answers: rows for QUEUE, STAT and LEDGER, and Done for every other
+abbrev pub answered : Machine → Verb → Outcome
+answered m verbs.Queue = Queue (waiting_rows m.queue)
+answered m (verbs.Stat account) = Stat (pairs_of m.book account) (held_ids m.queue account)
+answered m (verbs.Ledger account) = Ledger (filter (λ p. same_name p.account account) m.postings)
+answered m _ = Done

@@ -1,0 +1,40 @@
+ghost use Rattle.std.specs.Prelude.{◌≡◌, ℕ, List};
+ghost use Rattle.dali_machine.specs.Step.{counted, turn, step};
+ghost use Rattle.dali_machine.specs.Ready.{CanCommit, IsReady};
+
+use super::State;
+use crate::judged::Judged;
+use crate::outcome::Outcome;
+use crate::ready::Ready;
+
+impl State {
+    /// Takes the command that was prepared last, on this state as it is since. Takes no memory, and refuses nothing.
+    /// The state afterwards is that of the step of the prepared line.
+    pub fn commit(&mut self, ready: Ready) -> Outcome
+        requires { CanCommit self.old ready }
+        ensures outcome { result ≡ ready.outcome }
+        ensures next { self.new.machine ≡ (turn (counted self.old.machine) ready.judged).next }
+        ensures step { (edition : ℕ) (line : List ℕ) → IsReady edition self.old.machine line ready → self.new.machine ≡ (step edition self.old.machine line).next }
+    {
+        self.take_turn(ready)
+    }
+
+    /// Changes the state by what was judged.
+    fn take_turn(&mut self, ready: Ready) -> Outcome
+        requires { CanCommit self.old ready }
+        ensures outcome { result ≡ ready.outcome }
+        ensures next { self.new.machine ≡ (turn (counted self.old.machine) ready.judged).next }
+    {
+        let (judged, outcome, number, net) = ready.into_parts();
+        self.commands = number;
+        match judged {
+            Judged::Form | Judged::Back => {}
+            Judged::No { moment, .. } => self.greatest = moment,
+            Judged::Yes { moment, verb } => {
+                self.greatest = moment;
+                self.accept(&verb, &net);
+            }
+        }
+        outcome
+    }
+}
