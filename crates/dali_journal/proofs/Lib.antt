@@ -1,0 +1,6 @@
+pub mod TornLemmas
+pub mod RecordLemmas
+pub mod AppendLemmas
+pub mod HeaderLemmas
+pub mod GroupLemmas
+pub mod OneList

@@ -1,0 +1,28 @@
+//! The journal: records behind gates on a site's disk.
+//!
+//! The promise to the crates above: an image holds at most one list of payloads; whatever moment a stop comes at, an
+//! append leaves an image of the list before it or of the longer one, and after Ok only of the longer one; a journal is
+//! read back record by record as it stands; and each damage is told exactly where it is. What an image holds is defined
+//! in `specs/Holds.antt`, what an append does in `specs/Appends.antt`.
+#![tactic(auto)]
+
+mod appending;
+mod firm;
+mod formatting;
+mod group;
+mod journal;
+mod next;
+mod open;
+mod raise;
+mod refusal;
+mod sealed;
+
+pub use formatting::format;
+pub use group::Group;
+pub use journal::Journal;
+pub use open::open_journal;
+pub use refusal::{AppendNo, Damage, DiskFault, OpenNo};
+pub use sealed::{MOST_PAYLOAD, Sealed, frame};
+
+#[cfg(test)]
+mod tests;
