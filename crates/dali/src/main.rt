@@ -1,13 +1,19 @@
-//! The program `dali`: the words of the command line and the machine's streams, handed to `dali_desk::run`.
+//! The program `dali`: the words of the command line, the journal's file and the machine's streams, handed to
+//! `dali_desk::run`.
 #![tactic(auto)]
 
-mod console;
+ghost use Rattle.std.specs.Prelude.{◌≡◌, ℕ};
+ghost use Rattle.dali_desk.specs.Words.{IsJob};
+
+mod file_site;
 mod stdin_source;
+#[cfg(test)]
+mod tests;
 mod words;
 
-use console::Console;
-use dali_desk::{Status, exit_number, run, status_line};
-use std::alloc::Global;
+use dali_base::Words;
+use dali_desk::{Job, Status, exit_number, plan, run, status_line};
+use file_site::FileSite;
 use std::io::Write;
 use std::process::ExitCode;
 use stdin_source::StdinSource;
@@ -17,8 +23,8 @@ fn main(rt: HostRuntime) -> ExitCode {
     let status = match words::read(&rt, rt.alloc()) {
         Ok(words) => {
             let mut source = StdinSource::new(rt.stdin());
-            let mut console = Console::new(rt.stdout());
-            run(rt.alloc(), &words, &mut source, &mut console)
+            let mut site = site_of(&rt, &words);
+            run(rt.alloc(), &words, &mut source, &mut site)
         }
         Err(_) => Status::OutOfMemory,
     };
@@ -30,4 +36,20 @@ fn main(rt: HostRuntime) -> ExitCode {
         let _ = stderr.write_all(b"\n");
     }
     ExitCode::from(exit_number(&status))
+}
+
+/// The site of these words: the file that the second one names, and standard output. Only `init` makes a file.
+fn site_of(rt: &HostRuntime, words: &Words) -> FileSite
+    ensures { (size : ℕ) → IsJob words.now (Job.Init size) → result.size ≡ size }
+{
+    let stdout = rt.stdout();
+    let path = match words.get(1) {
+        Some(word) => std::str::from_utf8(word.bytes()).unwrap_or(""),
+        None => "",
+    };
+    match plan(words) {
+        Ok(Job::Init { size }) => FileSite::create(rt, path, size, stdout),
+        Ok(Job::Day) => FileSite::open(rt, path, stdout),
+        Err(_) => FileSite::without_file(stdout),
+    }
 }

@@ -1,3 +1,4 @@
 pub mod AccountLemmas
 pub mod Printing
 pub mod Filling
+pub mod Formatted

@@ -4,7 +4,7 @@ use Rattle.dali_line.specs.Commands.{commands}
 use Rattle.dali_desk.specs.Step.{text_of}
 use Rattle.dali_desk.specs.declared.TheConstants.{MOST_BYTES}
 use Rattle.dali_desk.specs.declared.status.Status.{Status}
-use Rattle.dali_desk.specs.declared.status.Status.TheVariants.{Done, Usage, ReadFault, PrintFault, LongFile, OutOfMemory}
+use Rattle.dali_desk.specs.declared.status.Status.TheVariants.{Done, Usage, ReadFault, PrintFault, DiskFault, LongFile, OutOfMemory}
 
 -- the first n bytes left stand in the front of the buffer, and where it isn't full they were all
 pub record Filled (n : ℕ) (buffer : List ℕ) (old new : Feed) : Type 0 where
@@ -42,6 +42,7 @@ EndsDay Done = Unit {0}
 EndsDay Usage = ⊥
 EndsDay ReadFault = Unit {0}
 EndsDay PrintFault = Unit {0}
+EndsDay DiskFault = ⊥
 EndsDay LongFile = Unit {0}
 EndsDay OutOfMemory = Unit {0}
 

@@ -3,5 +3,9 @@ pub mod StatusLine
 pub mod Books
 pub mod Step
 pub mod DayRun
+pub mod InitRun
 pub use Rattle.dali_line.specs.Commands
 pub use Rattle.dali_outside.specs.Outside
+pub use Rattle.dali_outside.specs.Stops
+pub use Rattle.dali_journal.specs.Holds
+pub use Rattle.dali_journal.specs.Appends

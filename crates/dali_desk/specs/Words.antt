@@ -1,8 +1,10 @@
-use Rattle.std.specs.Prelude.{◌≡◌, ◌≢◌, ℕ, List, [], ◌∷◌, codes}
+use Rattle.std.specs.Prelude.{◌≡◌, ◌≢◌, ◌≤◌, ◌^◌, ℕ, List, [], ◌∷◌, codes, decimal}
 use Rattle.std.specs.Str.{IsUtf8}
 use Rattle.dali_desk.specs.declared.job.Job.{Job}
-use Rattle.dali_desk.specs.declared.job.Job.TheVariants.{Day}
+use Rattle.dali_desk.specs.declared.job.Job.TheVariants.{Init, Day}
 
--- the table of words: these words ask for this job. JOURNAL is any text that isn't empty.
+-- the table of words: these words ask for this job. JOURNAL is any text that isn't empty, and SIZE a decimal number.
 abbrev pub IsJob : List (List ℕ) → Job → Type 0
+IsJob words (Init size) =
+    (path : List ℕ) × (path ≢ []) × IsUtf8 path × (64 ≤ size) × (size ≤ 2 ^ 40) × (words ≡ codes "init" ∷ path ∷ decimal size ∷ [])
 IsJob words Day = (path : List ℕ) × (path ≢ []) × IsUtf8 path × (words ≡ codes "day" ∷ path ∷ [])

@@ -1,12 +1,20 @@
-ghost use Rattle.std.specs.Prelude.{◌≡◌, ◌≢◌, ◌↔◌, [], IsTrue, IfOk, OnErr};
+ghost use Rattle.std.specs.Prelude.{◌≡◌, ◌≢◌, ◌↔◌, ◌≤◌, ◌^◌, ℕ, [], decimal, IsTrue, IfOk, OnErr};
 ghost use Rattle.std.specs.Str.{IsUtf8};
 ghost use Rattle.dali_desk.specs.Words.{IsJob};
 
-use dali_base::{Text, Words};
+use dali_base::{Text, Words, read_number};
+
+/// The least size of a journal, in bytes.
+const LEAST_SIZE: u64 = 64;
+
+/// The greatest size of a journal, in bytes.
+const MOST_SIZE: u64 = 1 << 40;
 
 /// What the words of the command line ask for.
 #[derive(Clone, Copy, Debug, PartialEq, Eq)]
 pub enum Job {
+    /// `init JOURNAL SIZE`: makes an empty journal of so many bytes, 64 to 2^40.
+    Init { size: u64 },
     /// `day JOURNAL`: takes the commands of the day file.
     Day,
 }
@@ -23,8 +31,23 @@ pub fn plan(words: &Words) -> Result<Job, Usage>
 {
     match words.as_slice() {
         [word, path] if is_word(word, b"day") && is_path(path) => Ok(Job::Day),
+        [word, path, size] if is_word(word, b"init") && is_path(path) => init(size),
         _ => Err(Usage),
     }
+}
+
+/// The job of `init` with this size.
+fn init(size: &Text) -> Result<Job, Usage>
+    ensures ok { IfOk result (λ job. (n : ℕ) × (job ≡ Job.Init n) × (64 ≤ n) × (n ≤ 2 ^ 40) × (size.now ≡ decimal n)) }
+    ensures usage { OnErr result ((n : ℕ) → 64 ≤ n → n ≤ 2 ^ 40 → size.now ≡ decimal n → ⊥) }
+{
+    let Some(size) = read_number(size.bytes(), MOST_SIZE) else {
+        return Err(Usage);
+    };
+    if size < LEAST_SIZE {
+        return Err(Usage);
+    }
+    Ok(Job::Init { size })
 }
 
 fn is_word(word: &Text, text: &[u8]) -> bool

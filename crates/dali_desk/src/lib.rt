@@ -1,11 +1,12 @@
 //! The desk: what each word of the command line does, from the bytes that come in to the bytes that go out.
 //!
-//! The promise to the program: `run` with `day` prints the replies to exactly the commands of the file, each by the
+//! The promise to the program: `run` with `init` leaves an empty journal (`specs/InitRun.antt`), `run` with `day` prints the replies to exactly the commands of the file, each by the
 //! step of `specs/Step.antt`, and every other status comes by its cause (`specs/DayRun.antt`).
 #![tactic(auto)]
 
 mod day;
 mod desk;
+mod init;
 mod job;
 mod reading;
 mod state;

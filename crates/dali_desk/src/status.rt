@@ -12,6 +12,8 @@ pub enum Status {
     ReadFault,
     /// The site failed to print.
     PrintFault,
+    /// The disk failed.
+    DiskFault,
     /// The file has more bytes than a day file may have.
     LongFile,
     /// Memory was wanted and wasn't there.
@@ -38,6 +40,7 @@ fn line(status: &Status) -> &'static [u8]
             b"dali: usage: init JOURNAL SIZE, day JOURNAL, check, export JOURNAL, gen N, trial N, raise JOURNAL, gate JOURNAL, ship JOURNAL, follow JOURNAL",
         Status::ReadFault => b"dali: read fault",
         Status::PrintFault => b"dali: print fault",
+        Status::DiskFault => b"dali: disk fault",
         Status::LongFile => b"dali: long file",
         Status::OutOfMemory => b"dali: out of memory",
     }
@@ -52,6 +55,7 @@ pub fn exit_number(status: &Status) -> u8
         Status::Usage => 2,
         Status::ReadFault => 3,
         Status::PrintFault => 4,
+        Status::DiskFault => 5,
         Status::LongFile => 9,
         Status::OutOfMemory => 11,
     }

@@ -1,13 +1,15 @@
-ghost use Rattle.std.specs.Prelude.{◌≡◌, ◌≤◌};
+ghost use Rattle.std.specs.Prelude.{◌≡◌, ◌≤◌, [], ◌∷◌, codes, decimal, IfOk};
 
-use crate::{Status, exit_number, run, status_line};
+use crate::{Job, Status, Usage, exit_number, plan, run, status_line};
 use dali_base::{OutOfMemory, Text, Words};
 use dali_outside::{Fault, Faults, MemSite, MemSource};
 use std::alloc::Global;
 use std::test::Fail;
 
 /// A text of these bytes.
-fn text(alloc: Global, bytes: &[u8]) -> Result<Text, OutOfMemory> {
+fn text(alloc: Global, bytes: &[u8]) -> Result<Text, OutOfMemory>
+    ensures { IfOk result (λ text. text ≡ bytes.now) }
+{
     let mut text = Text::new(alloc);
     text.add(bytes)?;
     Ok(text)
@@ -18,6 +20,16 @@ fn words(alloc: Global, given: &[&[u8]]) -> Result<Words, OutOfMemory> {
     for word in given {
         words.push(text(alloc, word)?)?;
     }
+    Ok(words)
+}
+
+/// The words `day J`.
+fn day_words(alloc: Global) -> Result<Words, OutOfMemory>
+    ensures { IfOk result (λ words. words ≡ codes "day" ∷ codes "J" ∷ []) }
+{
+    let mut words = Words::new(alloc);
+    words.push(text(alloc, b"day")?)?;
+    words.push(text(alloc, b"J")?)?;
     Ok(words)
 }
 
@@ -40,7 +52,7 @@ fn day(
 ) -> Result<(Status, Text), OutOfMemory>
     requires { 1 ≤ piece }
 {
-    let words = words(alloc, &[b"day", b"J"])?;
+    let words = day_words(alloc)?;
     let mut source = MemSource::new(text(alloc, file)?, piece, faults(alloc, take)?);
     let mut site = MemSite::new(alloc, 0, 4096, 64, 0, faults(alloc, put)?)?;
     let status = run(alloc, &words, &mut source, &mut site);
@@ -113,7 +125,7 @@ fn long_file(rt: HostRuntime) -> Result<(), Fail> {
 
 #[test]
 fn other_words(rt: HostRuntime) -> Result<(), Fail> {
-    let cases: [&[&[u8]]; 7] = [
+    let cases: [&[&[u8]]; 11] = [
         &[],
         &[b"day", b"\xff"],
         &[b"day"],
@@ -121,26 +133,34 @@ fn other_words(rt: HostRuntime) -> Result<(), Fail> {
         &[b"DAY", b"J"],
         &[b"day", b"J", b"J"],
         &[b"--help"],
+        &[b"init", b"J"],
+        &[b"init", b"J", b"63"],
+        &[b"init", b"J", b"064"],
+        &[b"init", b"J", b"1099511627777"],
     ];
     for given in cases {
         let words = words(rt.alloc(), given)?;
-        let mut source = MemSource::new(
-            text(rt.alloc(), THREE_LINES)?,
-            20,
-            faults(rt.alloc(), None)?,
-        );
-        let mut site = MemSite::new(rt.alloc(), 0, 64, 8, 0, faults(rt.alloc(), None)?)?;
-        let status = run(rt.alloc(), &words, &mut source, &mut site);
-        assert_eq!(rt; status, Status::Usage);
-        assert!(rt; site.printed().is_empty());
-        assert_eq!(rt; source.made(), 0);
+        assert_eq!(rt; plan(&words), Err(Usage));
     }
+    Ok(())
+}
+
+/// Without words nothing is read or printed.
+#[test]
+fn no_words(rt: HostRuntime) -> Result<(), Fail> {
+    let alloc = rt.alloc();
+    let words = Words::new(alloc);
+    let mut source = MemSource::new(text(alloc, THREE_LINES)?, 20, Faults::new(alloc));
+    let mut site = MemSite::new(alloc, 0, 64, 8, 0, Faults::new(alloc))?;
+    assert_eq!(rt; run(alloc, &words, &mut source, &mut site), Status::Usage);
+    assert!(rt; site.printed().is_empty());
+    assert_eq!(rt; source.made(), 0);
     Ok(())
 }
 
 #[test]
 fn status_lines(rt: HostRuntime) {
-    let cases: [(Status, &[u8], u8); 6] = [
+    let cases: [(Status, &[u8], u8); 7] = [
         (Status::Done, b"", 0),
         (
             Status::Usage,
@@ -149,6 +169,7 @@ fn status_lines(rt: HostRuntime) {
         ),
         (Status::ReadFault, b"dali: read fault", 3),
         (Status::PrintFault, b"dali: print fault", 4),
+        (Status::DiskFault, b"dali: disk fault", 5),
         (Status::LongFile, b"dali: long file", 9),
         (Status::OutOfMemory, b"dali: out of memory", 11),
     ];
@@ -159,4 +180,51 @@ fn status_lines(rt: HostRuntime) {
         assert_eq!(rt; &into[..len], line);
         assert_eq!(rt; exit_number(&status), number);
     }
+}
+
+/// The words `init J 64`. The last one is made of the number, so that its contract names it.
+fn init_words(alloc: Global) -> Result<Words, OutOfMemory>
+    ensures { IfOk result (λ words. words ≡ codes "init" ∷ codes "J" ∷ decimal 64 ∷ []) }
+{
+    let mut size = Text::new(alloc);
+    size.add_number(64)?;
+    let mut words = Words::new(alloc);
+    words.push(text(alloc, b"init")?)?;
+    words.push(text(alloc, b"J")?)?;
+    words.push(size)?;
+    Ok(words)
+}
+
+/// How `init J 64` ends over a disk of 64 bytes on which this call fails, and the bytes that stand there then.
+fn init(alloc: Global, fault: Option<Fault>) -> Result<(Status, Text), OutOfMemory> {
+    let words = init_words(alloc)?;
+    let mut source = MemSource::new(Text::new(alloc), 1, Faults::new(alloc));
+    let mut site = MemSite::new(alloc, 64, 0, 8, 64, faults(alloc, fault)?)?;
+    let status = run(alloc, &words, &mut source, &mut site);
+    Ok((status, text(alloc, site.bytes())?))
+}
+
+#[test]
+fn an_empty_journal_is_made(rt: HostRuntime) -> Result<(), Fail> {
+    let (status, bytes) = init(rt.alloc(), None)?;
+    assert_eq!(rt; status, Status::Done);
+    assert_eq!(rt; bytes.len(), 64);
+    assert_eq!(rt;
+        &bytes.bytes()[..17],
+        b"DALI-JOURNAL\0\0\0\x01\0".as_slice()
+    );
+    for call in [1, 2] {
+        let (status, _) = init(rt.alloc(), Some(Fault { call, went: 0 }))?;
+        assert_eq!(rt; status, Status::DiskFault);
+    }
+    Ok(())
+}
+
+/// The job of `init` at the greatest size.
+#[test]
+fn the_greatest_size(rt: HostRuntime) -> Result<(), Fail> {
+    let words = words(rt.alloc(), &[b"init", b"J", b"1099511627776"])?;
+    let size = 1_099_511_627_776;
+    assert_eq!(rt; plan(&words), Ok(Job::Init { size }));
+    Ok(())
 }
