@@ -12,8 +12,8 @@ machine_of a = record {
   commands = a.commands;
 }
 
-abbrev pub state_of : Inside → StateRecord
-state_of a = record {
+abbrev pub record_of : Inside → StateRecord
+record_of a = record {
   machine = machine_of a;
   lines = a.book.spare_lines;
   places = a.queue.spare;

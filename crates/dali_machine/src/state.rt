@@ -39,9 +39,9 @@ impl Model for State {
 
     ghost coded = { Prim.hlevel (codes, book_code) };
 
-    ghost use Rattle.dali_machine.specs.StateKept.{state_of, IsKept};
+    ghost use Rattle.dali_machine.specs.StateKept.{record_of, IsKept};
 
-    ghost view = { state_of };
+    ghost view = { record_of };
 
     ghost invariant = { IsKept };
 }

@@ -5,7 +5,7 @@ use Rattle.dali_account.specs.Book.{after_earmark}
 use Rattle.dali_account.specs.Refusals.{draw_refusal}
 use Rattle.dali_line.specs.declared.command.Verb.TheVariants as verbs
 use Rattle.dali_machine.specs.Machine.{StateRecord}
-use Rattle.dali_machine.specs.StateKept.{machine_of, state_of}
+use Rattle.dali_machine.specs.StateKept.{machine_of, record_of}
 use Rattle.dali_machine.specs.Effects.{accepted, one_move}
 use Rattle.dali_machine.specs.Ready.{MayTake, HasNetFor}
 use Rattle.dali_machine.proofs.Booking.{IsBooked, sums_fit, machine_booked}
@@ -15,16 +15,16 @@ use Rattle.dali_machine.proofs.state.State.earmark.Goals as goal
 
 pub unwrap-requires : goal.unwrap-requires
 unwrap-requires c =
-    let take : MayTake (state_of c.self.inside) (verbs.Earmark c.args.account c.args.asset c.args.quantity) = subst (λ s. MayTake s (verbs.Earmark c.args.account c.args.asset c.args.quantity)) (sym c.self.view_is) c.requires.take in
-    let net : HasNetFor (state_of c.self.inside) (verbs.Earmark c.args.account c.args.asset c.args.quantity) c.args.net.now = subst (λ s. HasNetFor s (verbs.Earmark c.args.account c.args.asset c.args.quantity) c.args.net.now) (sym c.self.view_is) c.requires.net in
+    let take : MayTake (record_of c.self.inside) (verbs.Earmark c.args.account c.args.asset c.args.quantity) = subst (λ s. MayTake s (verbs.Earmark c.args.account c.args.asset c.args.quantity)) (sym c.self.view_is) c.requires.take in
+    let net : HasNetFor (record_of c.self.inside) (verbs.Earmark c.args.account c.args.asset c.args.quantity) c.args.net.now = subst (λ s. HasNetFor s (verbs.Earmark c.args.account c.args.asset c.args.quantity) c.args.net.now) (sym c.self.view_is) c.requires.net in
     let one : length c.args.net.now ≡ 1 = ap length (net.is ∙ earmark_net (machine_of c.self.inside) take.moment c.args.account c.args.asset c.args.quantity) in
     answered_ok c.earmark.result (draw_refusal c.self.inside.book.book c.args.account c.args.asset c.args.quantity)
     (earmark_allowed (machine_of c.self.inside) take.moment c.args.account c.args.asset c.args.quantity take.allowed) c.earmark.ensures.refusal (c.earmark.ensures.spare (omega (arith, one, net.lines)))
 
 pub post-requires-clause-sums : goal.post-requires-clause-sums
 post-requires-clause-sums c =
-    let take : MayTake (state_of c.self.inside) (verbs.Earmark c.args.account c.args.asset c.args.quantity) = subst (λ s. MayTake s (verbs.Earmark c.args.account c.args.asset c.args.quantity)) (sym c.self.view_is) c.requires.take in
-    let net : HasNetFor (state_of c.self.inside) (verbs.Earmark c.args.account c.args.asset c.args.quantity) c.args.net.now = subst (λ s. HasNetFor s (verbs.Earmark c.args.account c.args.asset c.args.quantity) c.args.net.now) (sym c.self.view_is) c.requires.net in
+    let take : MayTake (record_of c.self.inside) (verbs.Earmark c.args.account c.args.asset c.args.quantity) = subst (λ s. MayTake s (verbs.Earmark c.args.account c.args.asset c.args.quantity)) (sym c.self.view_is) c.requires.take in
+    let net : HasNetFor (record_of c.self.inside) (verbs.Earmark c.args.account c.args.asset c.args.quantity) c.args.net.now = subst (λ s. HasNetFor s (verbs.Earmark c.args.account c.args.asset c.args.quantity) c.args.net.now) (sym c.self.view_is) c.requires.net in
     let is : c.args.net.now ≡ one_move c.args.account c.args.asset (neg_ℤ (pos c.args.quantity)) = net.is ∙ earmark_net (machine_of c.self.inside) take.moment c.args.account c.args.asset c.args.quantity in
     let book : c.earmark.new.self.book ≡ after_earmark c.self.inside.book.book c.args.account c.args.asset c.args.quantity =
     subst (λ r. OnOk r (c.earmark.new.self.book ≡ after_earmark c.self.inside.book.book c.args.account c.args.asset c.args.quantity)) c.unwrap.ensures c.earmark.ensures.ok in
@@ -35,8 +35,8 @@ post-requires-clause-sums c =
 
 pub invariant_of-self : goal.invariant_of-self
 invariant_of-self c =
-    let take : MayTake (state_of c.self.inside) (verbs.Earmark c.args.account c.args.asset c.args.quantity) = subst (λ s. MayTake s (verbs.Earmark c.args.account c.args.asset c.args.quantity)) (sym c.self.view_is) c.requires.take in
-    let net : HasNetFor (state_of c.self.inside) (verbs.Earmark c.args.account c.args.asset c.args.quantity) c.args.net.now = subst (λ s. HasNetFor s (verbs.Earmark c.args.account c.args.asset c.args.quantity) c.args.net.now) (sym c.self.view_is) c.requires.net in
+    let take : MayTake (record_of c.self.inside) (verbs.Earmark c.args.account c.args.asset c.args.quantity) = subst (λ s. MayTake s (verbs.Earmark c.args.account c.args.asset c.args.quantity)) (sym c.self.view_is) c.requires.take in
+    let net : HasNetFor (record_of c.self.inside) (verbs.Earmark c.args.account c.args.asset c.args.quantity) c.args.net.now = subst (λ s. HasNetFor s (verbs.Earmark c.args.account c.args.asset c.args.quantity) c.args.net.now) (sym c.self.view_is) c.requires.net in
     let is : c.args.net.now ≡ one_move c.args.account c.args.asset (neg_ℤ (pos c.args.quantity)) = net.is ∙ earmark_net (machine_of c.self.inside) take.moment c.args.account c.args.asset c.args.quantity in
     let book : c.earmark.new.self.book ≡ after_earmark c.self.inside.book.book c.args.account c.args.asset c.args.quantity =
     subst (λ r. OnOk r (c.earmark.new.self.book ≡ after_earmark c.self.inside.book.book c.args.account c.args.asset c.args.quantity)) c.unwrap.ensures c.earmark.ensures.ok in
@@ -47,7 +47,7 @@ invariant_of-self c =
 
 pub returns : goal.returns
 returns c =
-    let net : HasNetFor (state_of c.self.inside) (verbs.Earmark c.args.account c.args.asset c.args.quantity) c.args.net.now = subst (λ s. HasNetFor s (verbs.Earmark c.args.account c.args.asset c.args.quantity) c.args.net.now) (sym c.self.view_is) c.requires.net in
+    let net : HasNetFor (record_of c.self.inside) (verbs.Earmark c.args.account c.args.asset c.args.quantity) c.args.net.now = subst (λ s. HasNetFor s (verbs.Earmark c.args.account c.args.asset c.args.quantity) c.args.net.now) (sym c.self.view_is) c.requires.net in
     let book : c.earmark.new.self.book ≡ after_earmark c.self.inside.book.book c.args.account c.args.asset c.args.quantity =
     subst (λ r. OnOk r (c.earmark.new.self.book ≡ after_earmark c.self.inside.book.book c.args.account c.args.asset c.args.quantity)) c.unwrap.ensures c.earmark.ensures.ok in
     done_as (machine_of c.self.inside) (verbs.Earmark c.args.account c.args.asset c.args.quantity) c.earmark.new.self.book (after_earmark c.self.inside.book.book c.args.account c.args.asset c.args.quantity)

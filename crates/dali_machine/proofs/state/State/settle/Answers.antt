@@ -8,7 +8,7 @@ use Rattle.dali_line.specs.declared.command.Verb.TheVariants as verbs
 use Rattle.dali_queue.specs.Queue.{Queued, QueueRecord, without}
 use Rattle.dali_machine.specs.Machine.{StateRecord}
 use Rattle.dali_machine.specs.Kept.{AreKnown}
-use Rattle.dali_machine.specs.StateKept.{machine_of, state_of}
+use Rattle.dali_machine.specs.StateKept.{machine_of, record_of}
 use Rattle.dali_machine.specs.Effects.{accepted}
 use Rattle.dali_machine.specs.Ready.{MayTake, HasNetFor}
 use Rattle.dali_machine.proofs.Booking.{IsBooked, sums_fit, machine_booked}
@@ -18,34 +18,34 @@ use Rattle.dali_machine.proofs.state.State.settle.Goals as goal
 
 pub unwrap-requires : goal.unwrap-requires
 unwrap-requires c =
-    let take : MayTake (state_of c.self.inside) (verbs.Settle c.args.id) = subst (λ s. MayTake s (verbs.Settle c.args.id)) (sym c.self.view_is) c.requires.take in
+    let take : MayTake (record_of c.self.inside) (verbs.Settle c.args.id) = subst (λ s. MayTake s (verbs.Settle c.args.id)) (sym c.self.view_is) c.requires.take in
     c.cancel.ensures.gone ∙ settle_queued (machine_of c.self.inside) take.moment c.args.id take.allowed
 
 pub post-requires-clause-known : goal.post-requires-clause-known
-post-requires-clause-known c = (settling (state_of c.self.inside) c.args.id c.args.net.now c.unwrap.result c.self.invariant
+post-requires-clause-known c = (settling (record_of c.self.inside) c.args.id c.args.net.now c.unwrap.result c.self.invariant
     (subst (λ s. MayTake s (verbs.Settle c.args.id)) (sym c.self.view_is) c.requires.take) (subst (λ s. HasNetFor s (verbs.Settle c.args.id) c.args.net.now) (sym c.self.view_is) c.requires.net)
     (sym c.cancel.ensures.item ∙ ap result_ok c.unwrap.ensures)).known
 
 pub post-requires-clause-covered : goal.post-requires-clause-covered
-post-requires-clause-covered c = (settling (state_of c.self.inside) c.args.id c.args.net.now c.unwrap.result c.self.invariant
+post-requires-clause-covered c = (settling (record_of c.self.inside) c.args.id c.args.net.now c.unwrap.result c.self.invariant
     (subst (λ s. MayTake s (verbs.Settle c.args.id)) (sym c.self.view_is) c.requires.take) (subst (λ s. HasNetFor s (verbs.Settle c.args.id) c.args.net.now) (sym c.self.view_is) c.requires.net)
     (sym c.cancel.ensures.item ∙ ap result_ok c.unwrap.ensures)).covered
 
 pub post-requires-clause-limit : goal.post-requires-clause-limit
-post-requires-clause-limit c = (settling (state_of c.self.inside) c.args.id c.args.net.now c.unwrap.result c.self.invariant
+post-requires-clause-limit c = (settling (record_of c.self.inside) c.args.id c.args.net.now c.unwrap.result c.self.invariant
     (subst (λ s. MayTake s (verbs.Settle c.args.id)) (sym c.self.view_is) c.requires.take) (subst (λ s. HasNetFor s (verbs.Settle c.args.id) c.args.net.now) (sym c.self.view_is) c.requires.net)
     (sym c.cancel.ensures.item ∙ ap result_ok c.unwrap.ensures)).done.limit
 
 pub post-requires-2-clause-sums : goal.post-requires-2-clause-sums
 post-requires-2-clause-sums c =
-    let facts : IsSettling (machine_of c.self.inside) c.args.id c.args.net.now = settling (state_of c.self.inside) c.args.id c.args.net.now c.unwrap.result c.self.invariant
+    let facts : IsSettling (machine_of c.self.inside) c.args.id c.args.net.now = settling (record_of c.self.inside) c.args.id c.args.net.now c.unwrap.result c.self.invariant
     (subst (λ s. MayTake s (verbs.Settle c.args.id)) (sym c.self.view_is) c.requires.take) (subst (λ s. HasNetFor s (verbs.Settle c.args.id) c.args.net.now) (sym c.self.view_is) c.requires.net)
     (sym c.cancel.ensures.item ∙ ap result_ok c.unwrap.ensures) in
     sums_fit (machine_of c.self.inside) c.self.invariant c.self.inside.commands (record c.self.inside.book.book { balances = with_net c.self.inside.book.book.balances c.args.net.now }) c.args.net.now facts.done
 
 pub invariant_of-self : goal.invariant_of-self
 invariant_of-self c =
-    let facts : IsSettling (machine_of c.self.inside) c.args.id c.args.net.now = settling (state_of c.self.inside) c.args.id c.args.net.now c.unwrap.result c.self.invariant
+    let facts : IsSettling (machine_of c.self.inside) c.args.id c.args.net.now = settling (record_of c.self.inside) c.args.id c.args.net.now c.unwrap.result c.self.invariant
     (subst (λ s. MayTake s (verbs.Settle c.args.id)) (sym c.self.view_is) c.requires.take) (subst (λ s. HasNetFor s (verbs.Settle c.args.id) c.args.net.now) (sym c.self.view_is) c.requires.net)
     (sym c.cancel.ensures.item ∙ ap result_ok c.unwrap.ensures) in
     machine_booked (machine_of c.self.inside) c.self.invariant c.self.inside.commands c.post.new.self.book c.args.net.now
@@ -55,7 +55,7 @@ invariant_of-self c =
 
 pub returns : goal.returns
 returns c =
-    let facts : IsSettling (machine_of c.self.inside) c.args.id c.args.net.now = settling (state_of c.self.inside) c.args.id c.args.net.now c.unwrap.result c.self.invariant
+    let facts : IsSettling (machine_of c.self.inside) c.args.id c.args.net.now = settling (record_of c.self.inside) c.args.id c.args.net.now c.unwrap.result c.self.invariant
     (subst (λ s. MayTake s (verbs.Settle c.args.id)) (sym c.self.view_is) c.requires.take) (subst (λ s. HasNetFor s (verbs.Settle c.args.id) c.args.net.now) (sym c.self.view_is) c.requires.net)
     (sym c.cancel.ensures.item ∙ ap result_ok c.unwrap.ensures) in
     ap (λ (b : BookRecord). record (machine_of c.self.inside) { book = b; queue = c.cancel.new.self.queue; postings = c.post-2.new.self.postings }) c.post.ensures.book
