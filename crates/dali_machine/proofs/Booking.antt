@@ -67,13 +67,15 @@ outside accounts (x ∷ ms) known pair absent =
     let head : at_pair x.account x.asset x.delta pair ≡ pos 0 = ap (λ t. pick (t && same_name x.asset pair.1) x.delta) apart in
     omega (arith, ints, rest, head)
 
--- what a booking does: the moves are on the balances, and the book keeps its accounts, codes and limits
+-- what a booking does: the moves are on the balances, and the book keeps its accounts, codes, limits and what only
+-- accounts have
 pub record IsBooked (m : Machine) (book : BookRecord) (net : List Move) : Type 0 where
   pub moved : (pair : PairKey) → pos (units_of book.balances pair) ≡ pos (units_of m.book.balances pair) +ℤ delta_of net pair
   pub accounts : book.accounts ≡ m.book.accounts
   pub codes : book.codes ≡ m.book.codes
   pub limit : (asset : List ℕ) → total_of book asset ≤ LIMIT
   pub outside : (pair : PairKey) → has_account m.book.accounts pair.0 ≡ false → delta_of net pair ≡ pos 0
+  pub earmarks : (pair : PairKey) → has_account m.book.accounts pair.0 ≡ false → units_of book.earmarks pair ≡ units_of m.book.earmarks pair
 
 module _ (m : Machine) (kept : IsMachine m) (command : ℕ) (book : BookRecord) (net : List Move) (done : IsBooked m book net) where
   sum_is : (pair : PairKey) → delta_sum (posted m.postings command net) pair ≡ pos (units_of book.balances pair)
@@ -108,6 +110,9 @@ module _ (m : Machine) (kept : IsMachine m) (command : ℕ) (book : BookRecord) 
   machine_booked queue postings is known = record {
     matched = λ pair. ap (λ ps. delta_sum ps pair) is ∙ sum_is pair;
     owned = λ pair absent. owned pair (ap (λ xs. has_account xs pair.0) (sym done.accounts) ∙ absent);
+    earmarked = λ pair absent.
+        let unknown = ap (λ xs. has_account xs pair.0) (sym done.accounts) ∙ absent in
+        done.earmarks pair unknown ∙ kept.earmarked pair unknown;
     distinct = subst (λ xs. IsDistinct same_name xs) (sym done.accounts) kept.distinct;
     limit = done.limit;
     prices = subst (λ (cs : List (List ℕ × ℕ)). All (λ c. 1 ≤ c.1) cs) (sym done.codes) kept.prices;
@@ -135,4 +140,6 @@ module _ (m : Machine) (account asset : List ℕ) (n earmark : ℕ) (z : ℤ) (t
     codes = ap (λ (b : BookRecord). b.codes) put;
     limit = limit;
     outside = λ pair absent. one_delta pair ∙ ap (λ t. pick (t && same_name asset pair.1) z) (same_name_symm account pair.0 ∙ other_name m.book.accounts account pair.0 there absent);
+    earmarks = λ pair absent. ap (λ (b : BookRecord). units_of b.earmarks pair) put
+        ∙ units_other m.book.earmarks (account, asset) earmark pair (ap (λ t. t && same_name pair.1 asset) (other_name m.book.accounts account pair.0 there absent));
   }

@@ -10,3 +10,4 @@ pub mod Shortness
 pub mod Settling
 pub mod Committing
 pub mod SettleNet
+pub mod Totals

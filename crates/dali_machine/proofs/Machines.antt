@@ -45,6 +45,8 @@ module _ (m : Machine) (kept : IsMachine m) where
     matched = λ pair. kept.matched pair ∙ ap (λ (b : BookRecord). pos (units_of b.balances pair)) (sym is);
     owned = λ pair absent. ap (λ (b : BookRecord). units_of b.balances pair) is
         ∙ kept.owned pair (fewer_unknown m.book.accounts account pair.0 (ap (λ (b : BookRecord). has_account b.accounts pair.0) (sym is) ∙ absent));
+    earmarked = λ pair absent. ap (λ (b : BookRecord). units_of b.earmarks pair) is
+        ∙ kept.earmarked pair (fewer_unknown m.book.accounts account pair.0 (ap (λ (b : BookRecord). has_account b.accounts pair.0) (sym is) ∙ absent));
     distinct = subst (λ (b : BookRecord). IsDistinct same_name b.accounts) (sym is) (IsDistinct-push nat_list_eq_equiv m.book.accounts account kept.distinct new);
     limit = λ asset. subst (λ n. n ≤ LIMIT) (sym (totals asset)) (kept.limit asset);
     prices = subst (λ (b : BookRecord). All (λ c. 1 ≤ c.1) b.codes) (sym is) kept.prices;
@@ -58,6 +60,7 @@ module _ (m : Machine) (kept : IsMachine m) where
   machine_asset code price book is some totals = record {
     matched = λ pair. kept.matched pair ∙ ap (λ (b : BookRecord). pos (units_of b.balances pair)) (sym is);
     owned = λ pair absent. ap (λ (b : BookRecord). units_of b.balances pair) is ∙ kept.owned pair (ap (λ (b : BookRecord). has_account b.accounts pair.0) (sym is) ∙ absent);
+    earmarked = λ pair absent. ap (λ (b : BookRecord). units_of b.earmarks pair) is ∙ kept.earmarked pair (ap (λ (b : BookRecord). has_account b.accounts pair.0) (sym is) ∙ absent);
     distinct = subst (λ (b : BookRecord). IsDistinct same_name b.accounts) (sym is) kept.distinct;
     limit = λ asset. subst (λ n. n ≤ LIMIT) (sym (totals asset)) (kept.limit asset);
     prices = subst (λ (b : BookRecord). All (λ c. 1 ≤ c.1) b.codes) (sym is) (All-push (λ c. 1 ≤ c.1) m.book.codes (code, price) kept.prices some);
@@ -68,7 +71,7 @@ module _ (m : Machine) (kept : IsMachine m) where
 
   -- another queue that names only what the book has
   pub machine_queue : (queue : QueueRecord) → All (λ w. AreKnown m.book w.item) queue.waiting → IsMachine (record m { queue = queue })
-  machine_queue queue known = record { matched = kept.matched; owned = kept.owned; distinct = kept.distinct; limit = kept.limit; prices = kept.prices; known = known }
+  machine_queue queue known = record { matched = kept.matched; owned = kept.owned; earmarked = kept.earmarked; distinct = kept.distinct; limit = kept.limit; prices = kept.prices; known = known }
 
   pub known_without : (id : List ℕ) → All (λ (w : Queued). AreKnown m.book w.item) (without m.queue.waiting id)
   known_without id = All-filter (λ w. not (same_name id w.item.id)) (λ (w : Queued). AreKnown m.book w.item) m.queue.waiting kept.known

@@ -50,6 +50,7 @@ unfolding IsDistinct
 opening_kept = record {
   matched = λ pair. ap pos (sym (no_units pair));
   owned = λ pair absent. no_units pair;
+  earmarked = λ pair absent. no_units pair;
   distinct = tt;
   limit = λ asset. omega arith;
   prices = All-nil (λ c. 1 ≤ c.1);

@@ -136,7 +136,7 @@ module _ (m : Machine) (kept : IsMachine m) (t : ℕ) (id : List ℕ) (i : Instr
   moves = moved_net m.book.accounts m.book.codes (net_of (i ∷ [])) m.book.balances
       (ready_start m.book.accounts m.book.codes m.book.balances (net_of (i ∷ [])) (net_is i).ordered.rising known_moves covered)
 
-  total_same : (q : List ℕ) → total_of target q ≡ total_of m.book q
+  pub total_same : (q : List ℕ) → total_of target q ≡ total_of m.book q
   total_same q =
       let sum = held_changed (with_net m.book.balances (net_of (i ∷ []))) m.book.balances m.book.earmarks (effect i) q (λ pair. moves pair ∙ ap (λ z. pos (units_of m.book.balances pair) +ℤ z) ((net_is i).deltas pair)) m.book.accounts in
       let even = effects_even i q m.book.accounts kept.distinct parties.giver parties.taker in
@@ -149,6 +149,7 @@ module _ (m : Machine) (kept : IsMachine m) (t : ℕ) (id : List ℕ) (i : Instr
     codes = refl;
     limit = λ q. subst (λ n. n ≤ LIMIT) (sym (total_same q)) (kept.limit q);
     outside = outside m.book.accounts (net_of (i ∷ [])) known_accounts;
+    earmarks = λ pair absent. refl;
   }
 
   pub settle_effect : accepted m (verbs.Settle id) ≡ booked (with_queue m (record m.queue { waiting = without m.queue.waiting id })) target (net_of (i ∷ []))

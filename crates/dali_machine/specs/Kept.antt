@@ -13,11 +13,12 @@ pub record AreKnown (book : BookRecord) (i : Instruction) : Type 0 where
   pub taker : has_account book.accounts i.taker ≡ true
   pub code : has_asset book.codes i.code ≡ true
 
--- what holds of every state: each balance is the sum of its pair's postings, only accounts have one, no total is above
--- 10^18, each code has a price, and the queue names only what the book has
+-- what holds of every state: each balance is the sum of its pair's postings, only accounts have balances and earmarks, no
+-- total is above 10^18, each code has a price, and the queue names only what the book has
 pub record IsMachine (m : Machine) : Type 0 where
   pub matched : (pair : PairKey) → delta_sum m.postings pair ≡ pos (units_of m.book.balances pair)
   pub owned : (pair : PairKey) → has_account m.book.accounts pair.0 ≡ false → units_of m.book.balances pair ≡ 0
+  pub earmarked : (pair : PairKey) → has_account m.book.accounts pair.0 ≡ false → units_of m.book.earmarks pair ≡ 0
   pub distinct : IsDistinct same_name m.book.accounts
   pub limit : (asset : List ℕ) → total_of m.book asset ≤ LIMIT
   pub prices : All (λ c. 1 ≤ c.1) m.book.codes

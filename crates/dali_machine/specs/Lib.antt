@@ -7,3 +7,4 @@ pub mod Outcomes
 pub mod Step
 pub mod History
 pub mod Ready
+pub mod Totals

@@ -1,5 +1,7 @@
 ghost use Rattle.std.specs.Prelude.{◌≡◌, ℕ, List};
+ghost use Rattle.dali_machine.specs.Kept.{IsMachine};
 ghost use Rattle.dali_machine.specs.Step.{counted, turn, step};
+ghost use Rattle.dali_machine.specs.Totals.{KeepsTotals};
 ghost use Rattle.dali_machine.specs.Ready.{CanCommit, IsReady};
 
 use super::State;
@@ -14,6 +16,7 @@ impl State {
         requires { CanCommit self.old ready }
         ensures outcome { result ≡ ready.outcome }
         ensures next { self.new.machine ≡ (turn (counted self.old.machine) ready.judged).next }
+        ensures totals { KeepsTotals ready.judged self.old.machine.book self.new.machine.book }
         ensures step { (edition : ℕ) (line : List ℕ) → IsReady edition self.old.machine line ready → self.new.machine ≡ (step edition self.old.machine line).next }
     {
         self.take_turn(ready)
@@ -24,6 +27,7 @@ impl State {
         requires { CanCommit self.old ready }
         ensures outcome { result ≡ ready.outcome }
         ensures next { self.new.machine ≡ (turn (counted self.old.machine) ready.judged).next }
+        ensures kept { IsMachine self.old.machine }
     {
         let (judged, outcome, number, net) = ready.into_parts();
         self.commands = number;

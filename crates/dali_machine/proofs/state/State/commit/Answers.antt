@@ -1,6 +1,13 @@
-use Rattle.std.proofs.Common.{◌∙◌}
+use Rattle.std.proofs.Common.{sym, ◌∙◌, subst}
+use Rattle.dali_machine.specs.Machine.{Machine}
+use Rattle.dali_machine.specs.Totals.{KeepsTotals}
 use Rattle.dali_machine.proofs.Committing.{step_of_turn}
+use Rattle.dali_machine.proofs.Totals.{turn_totals}
 use Rattle.dali_machine.proofs.state.State.commit.Goals as goal
+
+pub returns-clause-totals : goal.returns-clause-totals
+returns-clause-totals c = subst (λ (m : Machine). KeepsTotals c.args.ready.judged c.args.self.now.machine.book m.book) (sym c.take_turn.ensures.next)
+    (turn_totals c.args.self.now.machine c.args.ready.judged c.take_turn.ensures.kept c.requires.allowed)
 
 pub returns-clause-step : goal.returns-clause-step
 returns-clause-step c edition line made = c.take_turn.ensures.next ∙ step_of_turn c.args.self.now.machine edition line c.args.ready made
