@@ -11,3 +11,4 @@ pub mod Settling
 pub mod Committing
 pub mod SettleNet
 pub mod Totals
+pub mod Answering

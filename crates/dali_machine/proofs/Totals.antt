@@ -1,7 +1,7 @@
-use Rattle.std.proofs.Common.{◌≡◌, ℕ, ◌+◌, ◌-◌, ◌≤◌, ℤ, pos, neg_ℤ, ◌+ℤ◌, ◌-ℤ◌, Bool, true, false, not, List, [], ◌∷◌, ◌++◌, Option, Some, None, nat_lt, refl, sym, ap, ◌∙◌, subst, arith}
+use Rattle.std.proofs.Common.{◌≡◌, ℕ, ◌+◌, ◌-◌, pos, neg_ℤ, ◌+ℤ◌, ◌-ℤ◌, Bool, true, false, not, List, [], ◌∷◌, ◌++◌, Option, Some, None, nat_lt, refl, ap, ◌∙◌, subst, arith}
 use Rattle.std.proofs.lemmas.Int.{ints}
 use Rattle.std.proofs.lemmas.List.Sums.{sum_by_push}
-use Rattle.dali_account.specs.Book.{BookRecord, same_name, has_account, knows_pair, balance_of, earmark_of, total_of, with_pair}
+use Rattle.dali_account.specs.Book.{same_name, has_account, knows_pair, balance_of, earmark_of, total_of, with_pair}
 use Rattle.dali_account.specs.Refusals.{LIMIT}
 use Rattle.dali_account.specs.Units.{units_of}
 use Rattle.dali_account.proofs.SumLemmas.{same_name_is, same_name_symm, first_true, held_other, held_moved}

@@ -7,4 +7,5 @@ pub mod Outcomes
 pub mod Step
 pub mod History
 pub mod Ready
+pub mod Refused
 pub mod Totals

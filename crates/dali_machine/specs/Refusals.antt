@@ -91,41 +91,45 @@ is_entry (Fop id from to code quantity) = true
 is_entry (Pay id from to amount) = true
 is_entry _ = false
 
--- why a verb is refused at a moment, in the order of its sentences
-unfoldable pub refusal : Machine → ℕ → Verb → Option Code
-refusal m t (Part account) =
-    first_of ((has_account m.book.accounts account, There) ∷ (nat_le MOST (length m.book.accounts), Full) ∷ [])
-refusal m t (Inst code price) =
-    first_of ((has_asset m.book.codes code, There) ∷ (nat_le MOST (length m.book.codes), Full) ∷ [])
-refusal m t (Issue account asset n) =
-    first_of ((unknown_pair m account asset, Name) ∷ (nat_lt LIMIT (total_of m.book asset + n), Total) ∷ [])
-refusal m t (Draw account asset n) =
-    first_of ((unknown_pair m account asset, Name) ∷ (nat_lt (balance_of m.book account asset) n, Short) ∷ [])
-refusal m t (Dvp id seller buyer code quantity amount) =
-    first_of ((is_used m.queue id, There) ∷ (unknown_parties m seller buyer || unknown_asset m code, Name) ∷ (same_name code cash, Cash)
-    ∷ (same_name seller buyer, SelfDeal) ∷ (is_late m kinds.Dvp t, Late) ∷ (is_full m, Full) ∷ [])
-refusal m t (Fop id from to code quantity) =
-    first_of ((is_used m.queue id, There) ∷ (unknown_parties m from to || unknown_asset m code, Name) ∷ (same_name code cash, Cash)
-    ∷ (same_name from to, SelfDeal) ∷ (nat_lt MOST_VALUE (worth m code quantity), Value) ∷ (is_late m kinds.Fop t, Late) ∷ (is_full m, Full) ∷ [])
-refusal m t (Pay id from to amount) =
-    first_of ((is_used m.queue id, There) ∷ (unknown_parties m from to, Name) ∷ (same_name from to, SelfDeal)
-    ∷ (is_late m kinds.Pay t, Late) ∷ (is_full m, Full) ∷ [])
-refusal m t (Cancel id) = first_of ((not_queued m id, Gone) ∷ [])
-refusal m t (Settle id) =
-    first_of ((not_queued m id, Gone) ∷ (nat_lt 1 (group_size m.queue.waiting id), Linked)
-    ∷ (of_queued m id (λ i. is_late m i.kind t), Late) ∷ (of_queued m id (is_short m.book), Short) ∷ [])
-refusal m t (Cutoff kind moment) = None
-refusal m t (Cycle budget) = None
-refusal m t Queue = None
-refusal m t Close = None
-refusal m t (Stat account) = first_of ((unknown_account m account, Name) ∷ [])
-refusal m t (Ledger account) = first_of ((unknown_account m account, Name) ∷ [])
-refusal m t (Earmark account asset n) =
-    first_of ((unknown_pair m account asset, Name) ∷ (nat_lt (balance_of m.book account asset) n, Short) ∷ [])
-refusal m t (Release account asset n) =
-    first_of ((unknown_pair m account asset, Name) ∷ (nat_lt (earmark_of m.book account asset) n, Short) ∷ [])
-refusal m t (Link first second) =
-    first_of ((not_queued m first || not_queued m second, Gone) ∷ (same_name first second, SelfDeal)
+-- a verb's sentences at a moment, in their order: each says whether it holds, and its code
+abbrev pub sentences : Machine → ℕ → Verb → List (Bool × Code)
+sentences m t (Part account) =
+    (has_account m.book.accounts account, There) ∷ (nat_le MOST (length m.book.accounts), Full) ∷ []
+sentences m t (Inst code price) =
+    (has_asset m.book.codes code, There) ∷ (nat_le MOST (length m.book.codes), Full) ∷ []
+sentences m t (Issue account asset n) =
+    (unknown_pair m account asset, Name) ∷ (nat_lt LIMIT (total_of m.book asset + n), Total) ∷ []
+sentences m t (Draw account asset n) =
+    (unknown_pair m account asset, Name) ∷ (nat_lt (balance_of m.book account asset) n, Short) ∷ []
+sentences m t (Dvp id seller buyer code quantity amount) =
+    (is_used m.queue id, There) ∷ (unknown_parties m seller buyer || unknown_asset m code, Name) ∷ (same_name code cash, Cash)
+    ∷ (same_name seller buyer, SelfDeal) ∷ (is_late m kinds.Dvp t, Late) ∷ (is_full m, Full) ∷ []
+sentences m t (Fop id from to code quantity) =
+    (is_used m.queue id, There) ∷ (unknown_parties m from to || unknown_asset m code, Name) ∷ (same_name code cash, Cash)
+    ∷ (same_name from to, SelfDeal) ∷ (nat_lt MOST_VALUE (worth m code quantity), Value) ∷ (is_late m kinds.Fop t, Late) ∷ (is_full m, Full) ∷ []
+sentences m t (Pay id from to amount) =
+    (is_used m.queue id, There) ∷ (unknown_parties m from to, Name) ∷ (same_name from to, SelfDeal)
+    ∷ (is_late m kinds.Pay t, Late) ∷ (is_full m, Full) ∷ []
+sentences m t (Cancel id) = (not_queued m id, Gone) ∷ []
+sentences m t (Settle id) =
+    (not_queued m id, Gone) ∷ (nat_lt 1 (group_size m.queue.waiting id), Linked)
+    ∷ (of_queued m id (λ i. is_late m i.kind t), Late) ∷ (of_queued m id (is_short m.book), Short) ∷ []
+sentences m t (Cutoff kind moment) = []
+sentences m t (Cycle budget) = []
+sentences m t Queue = []
+sentences m t Close = []
+sentences m t (Stat account) = (unknown_account m account, Name) ∷ []
+sentences m t (Ledger account) = (unknown_account m account, Name) ∷ []
+sentences m t (Earmark account asset n) =
+    (unknown_pair m account asset, Name) ∷ (nat_lt (balance_of m.book account asset) n, Short) ∷ []
+sentences m t (Release account asset n) =
+    (unknown_pair m account asset, Name) ∷ (nat_lt (earmark_of m.book account asset) n, Short) ∷ []
+sentences m t (Link first second) =
+    (not_queued m first || not_queued m second, Gone) ∷ (same_name first second, SelfDeal)
     ∷ (same_group m.queue.waiting first second, There)
-    ∷ (nat_lt MOST_LINKED (group_size m.queue.waiting first + group_size m.queue.waiting second), Full) ∷ [])
-refusal m t (Rank id rank) = first_of ((not_queued m id, Gone) ∷ [])
+    ∷ (nat_lt MOST_LINKED (group_size m.queue.waiting first + group_size m.queue.waiting second), Full) ∷ []
+sentences m t (Rank id rank) = (not_queued m id, Gone) ∷ []
+
+-- why a verb is refused at a moment: the first of its sentences that holds
+unfoldable pub refusal : Machine → ℕ → Verb → Option Code
+refusal m t verb = first_of (sentences m t verb)

@@ -1,4 +1,5 @@
 ghost use Rattle.std.specs.Prelude.{◌≡◌};
+ghost use Rattle.dali_machine.specs.Refused.{IsAnswered};
 
 use crate::judged::Judged;
 use crate::outcome::Outcome;
@@ -16,14 +17,18 @@ pub struct Ready {
 
 impl Model for Ready {
     ghost use Rattle.dali_machine.specs.Ready.{ReadyRecord};
+    ghost use Rattle.dali_machine.specs.Refused.{IsAnswered};
 
     ghost Value = { ReadyRecord };
 
     ghost view = { λ a. record { judged = a.judged; outcome = a.outcome; number = a.number; net = a.net } };
+
+    ghost invariant = { λ a. IsAnswered a.judged a.outcome };
 }
 
 impl Ready {
     pub(crate) fn new(judged: Judged, outcome: Outcome, number: u64, net: Net) -> Ready
+        requires { IsAnswered judged outcome }
         ensures { result ≡ record { judged = judged; outcome = outcome; number = number; net = net } }
     {
         Ready {
@@ -36,7 +41,8 @@ impl Ready {
 
     /// What was judged, what is answered, the number and the net.
     pub(crate) fn into_parts(self) -> (Judged, Outcome, u64, Net)
-        ensures { result ≡ (self.judged, self.outcome, self.number, self.net) }
+        ensures parts { result ≡ (self.judged, self.outcome, self.number, self.net) }
+        ensures answered { IsAnswered self.judged self.outcome }
     {
         (self.judged, self.outcome, self.number, self.net)
     }

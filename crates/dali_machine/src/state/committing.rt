@@ -1,8 +1,10 @@
 ghost use Rattle.std.specs.Prelude.{◌≡◌, ℕ, List};
 ghost use Rattle.dali_machine.specs.Kept.{IsMachine};
 ghost use Rattle.dali_machine.specs.Step.{counted, turn, step};
+ghost use Rattle.dali_machine.specs.Refused.{LeavesAll, IsAnswered};
 ghost use Rattle.dali_machine.specs.Totals.{KeepsTotals};
 ghost use Rattle.dali_machine.specs.Ready.{CanCommit, IsReady};
+ghost use Rattle.dali_machine.specs.declared.outcome.Code.{Code};
 
 use super::State;
 use crate::judged::Judged;
@@ -16,6 +18,7 @@ impl State {
         requires { CanCommit self.old ready }
         ensures outcome { result ≡ ready.outcome }
         ensures next { self.new.machine ≡ (turn (counted self.old.machine) ready.judged).next }
+        ensures refused { (code : Code) → result ≡ Outcome.No code → LeavesAll code self.old.machine self.new.machine }
         ensures totals { KeepsTotals ready.judged self.old.machine.book self.new.machine.book }
         ensures step { (edition : ℕ) (line : List ℕ) → IsReady edition self.old.machine line ready → self.new.machine ≡ (step edition self.old.machine line).next }
     {
@@ -28,6 +31,7 @@ impl State {
         ensures outcome { result ≡ ready.outcome }
         ensures next { self.new.machine ≡ (turn (counted self.old.machine) ready.judged).next }
         ensures kept { IsMachine self.old.machine }
+        ensures answered { IsAnswered ready.judged ready.outcome }
     {
         let (judged, outcome, number, net) = ready.into_parts();
         self.commands = number;

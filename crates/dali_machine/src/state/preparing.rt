@@ -1,9 +1,10 @@
-ghost use Rattle.std.specs.Prelude.{◌≡◌, ◌≢◌, ℕ, ◌<◌, ◌≤◌, ◌^◌, pos, IfOk, OnOk};
+ghost use Rattle.std.specs.Prelude.{◌≡◌, ◌≢◌, ℕ, ◌<◌, ◌≤◌, ◌^◌, pos, IfOk, OnOk, IsTrue};
 ghost use Rattle.dali_line.specs.Grammar.{HasFields};
 ghost use Rattle.dali_line.specs.declared.command.Verb.{Verb as Wish};
 ghost use Rattle.dali_machine.specs.Effects.{net_for, one_move};
 ghost use Rattle.dali_machine.specs.Step.{turn};
 ghost use Rattle.dali_machine.specs.Outcomes.{answered};
+ghost use Rattle.dali_machine.specs.Refused.{is_told_apart};
 ghost use Rattle.dali_machine.specs.Ready.{HasGoodFields, HasRoomFor, HasPlaceFor, IsAllowed, IsMadeReady, IsReady, CanCommit, net_of_judged};
 
 use super::State;
@@ -34,6 +35,7 @@ impl State {
         requires few { self.old.machine.commands < 2 ^ 63 }
         requires fields { HasGoodFields judged }
         requires allowed { IsAllowed self.old.machine judged }
+        requires apart { IsTrue (is_told_apart judged) }
         ensures machine { self.new.machine ≡ self.old.machine }
         ensures made { IfOk result (IsMadeReady self.old.machine judged) }
         ensures room { IfOk result (CanCommit self.new) }
