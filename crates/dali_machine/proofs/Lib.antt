@@ -12,3 +12,4 @@ pub mod Committing
 pub mod SettleNet
 pub mod Totals
 pub mod Answering
+pub mod Counting

@@ -1,4 +1,4 @@
-ghost use Rattle.std.specs.Prelude.{◌≡◌, ℕ, List};
+ghost use Rattle.std.specs.Prelude.{◌≡◌, ℕ, ◌+◌, ◌≤◌, List};
 ghost use Rattle.dali_machine.specs.Kept.{IsMachine};
 ghost use Rattle.dali_machine.specs.Step.{counted, turn, step};
 ghost use Rattle.dali_machine.specs.Refused.{LeavesAll, IsAnswered};
@@ -12,15 +12,21 @@ use crate::outcome::Outcome;
 use crate::ready::Ready;
 
 impl State {
-    /// Takes the command that was prepared last, on this state as it is since. Takes no memory, and refuses nothing.
-    /// The state afterwards is that of the step of the prepared line.
+    /// Takes the command that was prepared last, on this state as it is since, and gives its answer. Takes no memory,
+    /// and refuses nothing. The state afterwards is that of the step of the prepared line (`specs/Step.antt`).
+    ///
+    /// A refused command leaves all but the count and the greatest moment as it was (`specs/Refused.antt`). An asset's
+    /// total changes by an accepted ISSUE or DRAW of it alone, by the quantity (`specs/Totals.antt`). The greatest
+    /// moment never falls.
     pub fn commit(&mut self, ready: Ready) -> Outcome
         requires { CanCommit self.old ready }
         ensures outcome { result ≡ ready.outcome }
         ensures next { self.new.machine ≡ (turn (counted self.old.machine) ready.judged).next }
+        ensures counted { self.new.machine.commands ≡ self.old.machine.commands + 1 }
         ensures refused { (code : Code) → result ≡ Outcome.No code → LeavesAll code self.old.machine self.new.machine }
         ensures totals { KeepsTotals ready.judged self.old.machine.book self.new.machine.book }
         ensures step { (edition : ℕ) (line : List ℕ) → IsReady edition self.old.machine line ready → self.new.machine ≡ (step edition self.old.machine line).next }
+        ensures rises { (edition : ℕ) (line : List ℕ) → IsReady edition self.old.machine line ready → self.old.machine.greatest ≤ self.new.machine.greatest }
     {
         self.take_turn(ready)
     }

@@ -1,7 +1,8 @@
-use Rattle.std.proofs.Common.{sym, ◌∙◌, subst}
+use Rattle.std.proofs.Common.{◌≤◌, sym, ap, ◌∙◌, subst}
 use Rattle.dali_machine.specs.Machine.{Machine}
 use Rattle.dali_machine.specs.Totals.{KeepsTotals}
 use Rattle.dali_machine.proofs.Committing.{step_of_turn}
+use Rattle.dali_machine.proofs.Counting.{turn_counted, turn_rises}
 use Rattle.dali_machine.proofs.Totals.{turn_totals}
 use Rattle.dali_machine.proofs.state.State.commit.Goals as goal
 
@@ -11,3 +12,9 @@ returns-clause-totals c = subst (λ (m : Machine). KeepsTotals c.args.ready.judg
 
 pub returns-clause-step : goal.returns-clause-step
 returns-clause-step c edition line made = c.take_turn.ensures.next ∙ step_of_turn c.args.self.now.machine edition line c.args.ready made
+
+pub returns-clause-counted : goal.returns-clause-counted
+returns-clause-counted c = ap (λ (m : Machine). m.commands) c.take_turn.ensures.next ∙ turn_counted c.args.self.now.machine c.args.ready.judged
+
+pub returns-clause-rises : goal.returns-clause-rises
+returns-clause-rises c edition line made = subst (λ (m : Machine). c.args.self.now.machine.greatest ≤ m.greatest) (sym c.take_turn.ensures.next) (turn_rises c.args.self.now.machine edition line c.args.ready made)

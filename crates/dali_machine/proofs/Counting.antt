@@ -1,0 +1,74 @@
+use Rattle.std.proofs.Common.{◌≡◌, ℕ, ◌+◌, ◌≤◌, Bool, true, false, cond, not, ◌&&◌, List, Option, Some, None, nat_lt, refl, sym, ap, ◌∙◌, subst, arith}
+use Rattle.std.proofs.lemmas.Bool.Decides.{nat_tests}
+use Rattle.dali_line.specs.declared.command.Command.{Command}
+use Rattle.dali_line.specs.declared.command.Verb.{Verb}
+use Rattle.dali_line.specs.declared.command.Verb.TheVariants.{Part, Inst, Issue, Draw, Dvp, Fop, Pay, Cancel, Settle, Cutoff, Cycle, Queue, Close, Stat, Ledger, Earmark, Release, Link, Rank}
+use Rattle.dali_queue.specs.declared.instruction.Instruction.{Instruction}
+use Rattle.dali_queue.specs.Queue.{item_of}
+use Rattle.dali_machine.specs.Machine.{Machine}
+use Rattle.dali_machine.specs.declared.outcome.Code.{Code}
+use Rattle.dali_machine.specs.declared.judged.Judged.{Judged}
+use Rattle.dali_machine.specs.declared.judged.Judged.TheVariants as judgements
+use Rattle.dali_machine.specs.Effects.{accepted, settled}
+use Rattle.dali_machine.specs.Step.{counted, at_moment, turn, judged, judged_by, judged_command, command_in, verdict}
+use Rattle.dali_machine.specs.Ready.{ReadyRecord, IsReady}
+
+-- an accepted verb changes neither the count nor the greatest moment
+pub record KeepsTime (old new : Machine) : Type 0 where
+  pub commands : new.commands ≡ old.commands
+  pub greatest : new.greatest ≡ old.greatest
+
+settled_time : (m : Machine) (id : List ℕ) (o : Option Instruction) → KeepsTime m (settled m id o)
+settled_time m id None = record { commands = refl; greatest = refl }
+settled_time m id (Some i) = record { commands = refl; greatest = refl }
+
+accepted_time : (m : Machine) (verb : Verb) → KeepsTime m (accepted m verb)
+unfolding accepted
+accepted_time m (Part account) = record { commands = refl; greatest = refl }
+accepted_time m (Inst code price) = record { commands = refl; greatest = refl }
+accepted_time m (Issue account asset n) = record { commands = refl; greatest = refl }
+accepted_time m (Draw account asset n) = record { commands = refl; greatest = refl }
+accepted_time m (Dvp id seller buyer code quantity amount) = record { commands = refl; greatest = refl }
+accepted_time m (Fop id from to code quantity) = record { commands = refl; greatest = refl }
+accepted_time m (Pay id from to amount) = record { commands = refl; greatest = refl }
+accepted_time m (Cancel id) = record { commands = refl; greatest = refl }
+accepted_time m (Settle id) = settled_time m id (item_of m.queue.waiting id)
+accepted_time m (Cutoff kind moment) = record { commands = refl; greatest = refl }
+accepted_time m (Cycle budget) = record { commands = refl; greatest = refl }
+accepted_time m Queue = record { commands = refl; greatest = refl }
+accepted_time m Close = record { commands = refl; greatest = refl }
+accepted_time m (Stat account) = record { commands = refl; greatest = refl }
+accepted_time m (Ledger account) = record { commands = refl; greatest = refl }
+accepted_time m (Earmark account asset n) = record { commands = refl; greatest = refl }
+accepted_time m (Release account asset n) = record { commands = refl; greatest = refl }
+accepted_time m (Link first second) = record { commands = refl; greatest = refl }
+accepted_time m (Rank id rank) = record { commands = refl; greatest = refl }
+
+pub turn_counted : (m : Machine) (j : Judged) → (turn (counted m) j).next.commands ≡ m.commands + 1
+turn_counted m judgements.Form = refl
+turn_counted m judgements.Back = refl
+turn_counted m (judgements.No t code) = refl
+turn_counted m (judgements.Yes t verb) = (accepted_time (at_moment (counted m) t) verb).commands
+
+not_back : (t greatest : ℕ) → nat_lt t greatest ≡ false → greatest ≤ t
+not_back t greatest e = grind (arith, nat_tests)
+
+-- the greatest moment never falls
+judged_rises : (m : Machine) (edition : ℕ) (line : List ℕ) → m.greatest ≤ (turn (counted m) (judged edition m line)).next.greatest
+unfolding judged
+judged_rises m edition line = by (command_in edition line)
+  where
+    by_verdict : (c : Command) (o : Option Code) → m.greatest ≤ c.moment → m.greatest ≤ (turn (counted m) (judged_by c o)).next.greatest
+    by_verdict c None on = subst (λ n. m.greatest ≤ n) (sym (accepted_time (at_moment (counted m) c.moment) c.verb).greatest) on
+    by_verdict c (Some code) on = on
+
+    by : (o : Option Command) → m.greatest ≤ (turn (counted m) (judged_command m o)).next.greatest
+    by None = omega arith
+    by (Some c) = at (nat_lt c.moment m.greatest) refl
+      where
+        at : (b : Bool) → nat_lt c.moment m.greatest ≡ b → m.greatest ≤ (turn (counted m) (cond b judgements.Back (judged_by c (verdict m c)))).next.greatest
+        at true e = omega arith
+        at false e = by_verdict c (verdict m c) (not_back c.moment m.greatest e)
+
+pub turn_rises : (m : Machine) (edition : ℕ) (line : List ℕ) (ready : ReadyRecord) → IsReady edition m line ready → m.greatest ≤ (turn (counted m) ready.judged).next.greatest
+turn_rises m edition line ready made = subst (λ j. m.greatest ≤ (turn (counted m) j).next.greatest) (sym made.judged) (judged_rises m edition line)
