@@ -1,0 +1,3 @@
+pub mod Reply
+pub use Rattle.dali_statement.specs.Export
+pub use Rattle.dali_line.specs.Grammar

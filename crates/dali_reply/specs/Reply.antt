@@ -1,0 +1,64 @@
+use Rattle.std.specs.Prelude.{ℕ, List, [], ◌∷◌, ◌++◌, codes, decimal}
+use Rattle.std.specs.Fmt.{signed_decimal}
+use Rattle.std.specs.List.{flat_map}
+use Rattle.dali_account.specs.declared.pairs.Pair.{Pair}
+use Rattle.dali_ledger.specs.declared.posting.Posting.{Posting}
+use Rattle.dali_statement.specs.declared.rows.WaitRow.{WaitRow}
+use Rattle.dali_statement.specs.Export.{row_text}
+use Rattle.dali_line.specs.Grammar.{kind_text}
+use Rattle.dali_machine.specs.declared.outcome.Code.{Code}
+use Rattle.dali_machine.specs.declared.outcome.Code.TheVariants.{Form, Back, Closed, There, Full, Name, Total, Short, Cash, SelfDeal, Late, Value, Gone, Linked}
+use Rattle.dali_machine.specs.declared.outcome.Outcome.{Outcome}
+use Rattle.dali_machine.specs.declared.outcome.Outcome.TheVariants.{Done, No, Queue, Stat, Ledger}
+
+-- The reply to command number k is a list of lines. A line is a row of text: fields joined by commas, ended by LF. Its
+-- first field is k, and its second the line's word.
+
+abbrev pub code_text : Code → List ℕ
+code_text Form = codes "FORM"
+code_text Back = codes "BACK"
+code_text Closed = codes "CLOSED"
+code_text There = codes "THERE"
+code_text Full = codes "FULL"
+code_text Name = codes "NAME"
+code_text Total = codes "TOTAL"
+code_text Short = codes "SHORT"
+code_text Cash = codes "CASH"
+code_text SelfDeal = codes "SELF"
+code_text Late = codes "LATE"
+code_text Value = codes "VALUE"
+code_text Gone = codes "GONE"
+code_text Linked = codes "LINKED"
+
+abbrev pub ok_line : ℕ → List ℕ
+ok_line k = row_text (decimal k ∷ codes "OK" ∷ [])
+
+abbrev pub no_line : ℕ → Code → List ℕ
+no_line k code = row_text (decimal k ∷ codes "NO" ∷ code_text code ∷ [])
+
+-- the last line of a reply that has rows
+abbrev pub end_line : ℕ → List ℕ
+end_line k = row_text (decimal k ∷ codes "END" ∷ [])
+
+-- a queued instruction
+abbrev pub wait_line : ℕ → WaitRow → List ℕ
+wait_line k row = row_text (decimal k ∷ codes "WAIT" ∷ row.id ∷ kind_text row.kind ∷ decimal row.value ∷ [])
+
+-- a balance
+abbrev pub balance_line : ℕ → Pair → List ℕ
+balance_line k pair = row_text (decimal k ∷ codes "BAL" ∷ pair.asset ∷ decimal pair.balance ∷ [])
+
+-- a queued instruction of which an account is a party
+abbrev pub held_line : ℕ → List ℕ → List ℕ
+held_line k id = row_text (decimal k ∷ codes "HELD" ∷ id ∷ [])
+
+-- a posting of an account
+abbrev pub posting_line : ℕ → Posting → List ℕ
+posting_line k p = row_text (decimal k ∷ codes "ROW" ∷ decimal p.number ∷ decimal p.command ∷ p.asset ∷ signed_decimal p.delta ∷ decimal p.after ∷ [])
+
+abbrev pub reply_text : ℕ → Outcome → List ℕ
+reply_text k Done = ok_line k
+reply_text k (No code) = no_line k code
+reply_text k (Queue rows) = flat_map (wait_line k) rows ++ end_line k
+reply_text k (Stat pairs ids) = flat_map (balance_line k) pairs ++ flat_map (held_line k) ids ++ end_line k
+reply_text k (Ledger rows) = flat_map (posting_line k) rows ++ end_line k
