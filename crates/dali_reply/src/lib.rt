@@ -9,3 +9,6 @@ mod outcome;
 mod words;
 
 pub use outcome::reply;
+
+#[cfg(test)]
+mod tests;
