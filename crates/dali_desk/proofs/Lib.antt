@@ -1,4 +1,7 @@
-pub mod AccountLemmas
 pub mod Printing
-pub mod Filling
 pub mod Formatted
+pub mod ReadingOn
+pub mod Long
+pub mod Endings
+pub mod Days
+pub mod Middays

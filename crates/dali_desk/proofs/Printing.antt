@@ -27,9 +27,20 @@ a_front_more text piece later old mid new far more = record {
   printed = more.printed ∙ ap (λ xs. xs ++ more.went) far.printed ∙ append_assoc old.printed far.went more.went;
   front = record {
     rest = more.front.rest ++ later;
-    whole = far.whole ∙ ap (λ xs. far.went ++ (xs ++ later)) more.front.whole
+    parts = far.whole ∙ ap (λ xs. far.went ++ (xs ++ later)) more.front.parts
         ∙ ap (λ xs. far.went ++ xs) (append_assoc more.went more.front.rest later)
         ∙ sym (append_assoc far.went more.went (more.front.rest ++ later));
+  };
+}
+
+-- the whole of a text, and a front of what comes behind it
+pub front_behind : (text piece : List ℕ) (old mid new : Sight) → mid.printed ≡ old.printed ++ text → PrintsFront piece mid new → PrintsFront (text ++ piece) old new
+front_behind text piece old mid new printed more = record {
+  went = text ++ more.went;
+  printed = more.printed ∙ ap (λ xs. xs ++ more.went) printed ∙ append_assoc old.printed text more.went;
+  front = record {
+    rest = more.front.rest;
+    parts = ap (λ xs. text ++ xs) more.front.parts ∙ sym (append_assoc text more.went more.front.rest);
   };
 }
 
@@ -37,23 +48,23 @@ pub all_printed : (text : List ℕ) (old new : Sight) → SoFar text [] old new 
 all_printed text old new far = far.printed ∙ ap (λ xs. old.printed ++ xs) (sym (far.whole ∙ append-nil _))
 
 pub is_front : (text later : List ℕ) (old new : Sight) → SoFar text later old new → PrintsFront text old new
-is_front text later old new far = record { went = far.went; printed = far.printed; front = record { rest = later; whole = far.whole } }
+is_front text later old new far = record { went = far.went; printed = far.printed; front = record { rest = later; parts = far.whole } }
 
 -- nothing is a front of each text
 pub none_printed : (text : List ℕ) (old new : Sight) → new.printed ≡ old.printed → PrintsFront text old new
-none_printed text old new same = record { went = []; printed = same ∙ sym (append-nil _); front = record { rest = text; whole = refl } }
+none_printed text old new same = record { went = []; printed = same ∙ sym (append-nil _); front = record { rest = text; parts = refl } }
 
 -- a put prints a front of its piece
 pub put_front : (worked : Bool) (piece : List ℕ) (old new : Sight) → Prints worked piece old new → PrintsFront piece old new
 put_front true piece old new prints = record {
   went = prints.went;
   printed = prints.printed;
-  front = record { rest = []; whole = sym (prints.whole refl) ∙ sym (append-nil _) };
+  front = record { rest = []; parts = sym (prints.whole refl) ∙ sym (append-nil _) };
 }
 put_front false piece old new prints = let begun = prints.begun refl in record {
   went = prints.went;
   printed = prints.printed;
-  front = record { rest = drop begun.0 piece; whole = sym (take-append-drop begun.0 piece) ∙ ap (λ xs. xs ++ drop begun.0 piece) (sym begun.1) };
+  front = record { rest = drop begun.0 piece; parts = sym (take-append-drop begun.0 piece) ∙ ap (λ xs. xs ++ drop begun.0 piece) (sym begun.1) };
 }
 
 pub goes_on : (a b c : Sight) → Goes a b → Goes b c → Goes a c

@@ -1,40 +1,23 @@
-use Rattle.std.specs.Prelude.{◌≡◌, ◌≢◌, ℕ, ◌+◌, ◌-◌, ◌^◌, ◌<◌, ◌≤◌, ◌↔◌, ◌⊎◌, Bool, IsTrue, List, [], ◌++◌, length, take}
-use Rattle.dali_outside.specs.Outside.{Feed, Sight, Rose, Goes}
-use Rattle.dali_line.specs.Commands.{commands}
-use Rattle.dali_desk.specs.Step.{text_of}
-use Rattle.dali_desk.specs.declared.TheConstants.{MOST_BYTES}
+use Rattle.std.specs.Prelude.{◌≡◌, ℕ, ◌+◌, ◌-◌, ◌<◌, ◌≤◌, ◌⊎◌, Bool, IsTrue, List, [], ◌∷◌, ◌++◌, length, drop}
+use Rattle.std.specs.List.{All}
+use Rattle.dali_outside.specs.Outside.{Feed, Sight, Rose, Goes, SameDisk}
+use Rattle.dali_line.specs.Commands.{commands, ended_commands}
+use Rattle.dali_line.specs.Lines.{FirstIsLong, MOST_OF_COMMAND, MOST_OF_FILE}
+use Rattle.dali_machine.specs.History.{IsLegal}
+use Rattle.dali_desk.specs.TextOf.{text_of, plain_history}
 use Rattle.dali_desk.specs.declared.status.Status.{Status}
-use Rattle.dali_desk.specs.declared.status.Status.TheVariants.{Done, Usage, ReadFault, PrintFault, DiskFault, LongFile, OutOfMemory}
+use Rattle.dali_desk.specs.declared.status.Status.TheVariants.{Done, Usage, ReadFault, PrintFault, DiskFault, LongLine, LongFile, OutOfMemory}
 
--- the first n bytes left stand in the front of the buffer, and where it isn't full they were all
-pub record Filled (n : ℕ) (buffer : List ℕ) (old new : Feed) : Type 0 where
-  pub moved : old.left ≡ take n buffer ++ new.left
-  pub ends : n < length buffer → new.left ≡ []
-
--- fewer bytes than the room were taken
-pub record FailedAfter (room : ℕ) (old new : Feed) : Type 0 where
-  pub taken : List ℕ
-  pub moved : old.left ≡ taken ++ new.left
-  pub short : length taken < room
-
--- a text begins with this front
-pub record Begins (front text : List ℕ) : Type 0 where
-  pub rest : List ℕ
-  pub whole : text ≡ front ++ rest
+-- a list begins with this front
+pub record Begins {X : Type 0} (front whole : List X) : Type 0 where
+  pub rest : List X
+  pub parts : whole ≡ front ++ rest
 
 -- what was printed in the call is a front of this text
 pub record PrintsFront (text : List ℕ) (old new : Sight) : Type 0 where
   pub went : List ℕ
   pub printed : new.printed ≡ old.printed ++ went
   pub front : Begins went text
-
--- the bytes taken in the call, and that byte MOST_BYTES + 1 was taken exactly at LongFile
-pub record TakesDay (old new : Feed) (status : Status) : Type 0 where
-  pub taken : List ℕ
-  pub moved : old.left ≡ taken ++ new.left
-  pub long : status ≡ LongFile → length taken ≡ MOST_BYTES + 1
-  pub short : status ≢ LongFile → length taken ≤ MOST_BYTES
-  pub whole : status ≢ LongFile → status ≢ ReadFault → new.left ≡ []
 
 -- the statuses of `day`
 abbrev pub EndsDay : Status → Type 0
@@ -43,10 +26,73 @@ EndsDay Usage = ⊥
 EndsDay ReadFault = Unit {0}
 EndsDay PrintFault = Unit {0}
 EndsDay DiskFault = ⊥
+EndsDay (LongLine k) = Unit {0}
 EndsDay LongFile = Unit {0}
 EndsDay OutOfMemory = Unit {0}
 
--- What a run of `day` does. The text that it prints is that of the history whose lines are the file's commands.
+-- command number k, counted from 1, is there and has more than 200 bytes
+pub record IsLongAt (k : ℕ) (commands : List (List ℕ)) : Type 0 where
+  pub counted : 1 ≤ k
+  pub long : FirstIsLong (drop (k - 1) commands)
+
+-- whatever follows these bytes, their command k has a 201st byte
+abbrev pub ShowsLong : ℕ → List ℕ → Type 0
+ShowsLong k bytes = (rest : List ℕ) → IsLongAt k (commands (bytes ++ rest))
+
+-- no command of these bytes has a 201st byte whatever follows
+abbrev pub ShowsNoLong : List ℕ → Type 0
+ShowsNoLong bytes = (k : ℕ) → ShowsLong k bytes → ⊥
+
+-- the input was read to its end, and the lines are all its commands
+pub record ReadsAll (taken left : List ℕ) (lines : List (List ℕ)) : Type 0 where
+  pub end : left ≡ []
+  pub limit : length taken ≤ MOST_OF_FILE
+  pub all : lines ≡ commands taken
+
+-- the lines are the commands that an LF ended within the bytes taken, of which none shows a long command
+pub record BreaksAfter (taken : List ℕ) (lines : List (List ℕ)) : Type 0 where
+  pub limit : length taken ≤ MOST_OF_FILE
+  pub whole : lines ≡ ended_commands taken
+  pub none_long : ShowsNoLong taken
+
+-- the lines are the first k - 1 commands, and command k has a 201st byte, whatever follows the bytes taken, or by the
+-- end of input where that was met
+pub record LongAfter (k : ℕ) (taken left : List ℕ) (lines : List (List ℕ)) : Type 0 where
+  pub next : k ≡ length lines + 1
+  pub limit : length taken ≤ MOST_OF_FILE + 1
+  pub long : ShowsLong k taken ⊎ (IsLongAt k (commands taken) × (left ≡ []))
+
+-- one byte past the limit was taken, and the lines are the commands that an LF ended within it, so the next doesn't end
+-- there; no command is shown to be long
+pub record PastLimit (taken : List ℕ) (lines : List (List ℕ)) : Type 0 where
+  pub within : List ℕ
+  pub past : ℕ
+  pub parts : taken ≡ within ++ past ∷ []
+  pub limit : length within ≡ MOST_OF_FILE
+  pub whole : lines ≡ ended_commands within
+  pub none_long : ShowsNoLong taken
+
+-- which lines were taken when the status came, and what of the input had been taken then
+abbrev pub TakenAt : Status → List ℕ → List ℕ → List (List ℕ) → Type 0
+TakenAt Done taken left lines = ReadsAll taken left lines
+TakenAt ReadFault taken left lines = BreaksAfter taken lines
+TakenAt (LongLine k) taken left lines = LongAfter k taken left lines
+TakenAt LongFile taken left lines = PastLimit taken lines
+TakenAt _ taken left lines = length taken ≤ MOST_OF_FILE
+
+-- these bytes of the input were taken in the call, and these lines are its first commands
+pub record TakesDay (old new : Feed) (lines : List (List ℕ)) (status : Status) : Type 0 where
+  pub taken : List ℕ
+  pub moved : old.left ≡ taken ++ new.left
+  pub first : Begins lines (commands old.left)
+  pub at : TakenAt status taken new.left lines
+
+-- what was printed when the status came: the whole text of the history, and after a print fault a front of it
+abbrev pub PrintsDay : Status → List ℕ → Sight → Sight → Type 0
+PrintsDay PrintFault text old new = PrintsFront text old new
+PrintsDay _ text old new = new.printed ≡ old.printed ++ text
+
+-- What a run of `day` does: it takes these lines as a legal history, and prints the history's text.
 pub record DayRun (source_tells site_tells : Bool) (old new : Feed) (before after : Sight) (status : Status) : Type 0 where
   pub statuses : EndsDay status
   -- a fault comes only where its count rose
@@ -54,13 +100,15 @@ pub record DayRun (source_tells site_tells : Bool) (old new : Feed) (before afte
   pub print_fault : status ≡ PrintFault → Rose before.print_faults after.print_faults
   pub faults : old.faults ≤ new.faults
   pub goes : Goes before after
-  -- what is taken, and when a file is long
-  pub taken : IsTrue source_tells → TakesDay old new status
-  -- what is printed: all replies at Done, else a front of them; where the file wasn't read whole, the
-  -- site isn't touched
-  pub done : IsTrue source_tells → IsTrue site_tells → status ≡ Done → after.printed ≡ before.printed ++ text_of (commands old.left)
-  pub front : IsTrue source_tells → IsTrue site_tells → PrintsFront (text_of (commands old.left)) before after
-  pub unread : (status ≡ ReadFault) ⊎ (status ≡ LongFile) → after ≡ before
-  -- where no count rose and the file isn't long, it ends with Done or want of memory
-  pub complete : IsTrue source_tells → length old.left ≤ MOST_BYTES → (Rose old.faults new.faults → ⊥) →
-      (Rose before.print_faults after.print_faults → ⊥) → (status ≡ Done) ⊎ (status ≡ OutOfMemory)
+  -- the history, its lines in the input, and its text
+  pub lines : List (List ℕ)
+  pub legal : IsLegal (plain_history lines)
+  pub input : IsTrue source_tells → TakesDay old new lines status
+  pub text : IsTrue site_tells → PrintsDay status (text_of (plain_history lines)) before after
+  -- the disk isn't touched
+  pub disk : IsTrue site_tells → SameDisk before after
+  pub syncs : after.syncs ≤ before.syncs
+  -- where no count rose, the file is within its limit and no command has more than 200 bytes, it ends with Done or want of
+  -- memory
+  pub complete : IsTrue source_tells → length old.left ≤ MOST_OF_FILE → All (λ command. length command ≤ MOST_OF_COMMAND) (commands old.left) →
+      (Rose old.faults new.faults → ⊥) → (Rose before.print_faults after.print_faults → ⊥) → (status ≡ Done) ⊎ (status ≡ OutOfMemory)

@@ -4,7 +4,7 @@ use Rattle.dali_outside.specs.Stops.{MightHaveLeft}
 use Rattle.dali_journal.specs.Holds.{Holds, head_text}
 use Rattle.dali_journal.specs.Appends.{AtRest}
 use Rattle.dali_desk.specs.declared.status.Status.{Status}
-use Rattle.dali_desk.specs.declared.status.Status.TheVariants.{Done, Usage, ReadFault, PrintFault, DiskFault, LongFile, OutOfMemory}
+use Rattle.dali_desk.specs.declared.status.Status.TheVariants.{Done, Usage, ReadFault, PrintFault, DiskFault, LongLine, LongFile, OutOfMemory}
 
 -- the statuses of `init`
 abbrev pub EndsInit : Status → Type 0
@@ -13,6 +13,7 @@ EndsInit Usage = ⊥
 EndsInit ReadFault = ⊥
 EndsInit PrintFault = ⊥
 EndsInit DiskFault = Unit {0}
+EndsInit (LongLine k) = ⊥
 EndsInit LongFile = ⊥
 EndsInit OutOfMemory = ⊥
 

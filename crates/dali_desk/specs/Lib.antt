@@ -1,10 +1,14 @@
 pub mod Words
 pub mod StatusLine
-pub mod Books
-pub mod Step
+pub mod TextOf
 pub mod DayRun
+pub mod Midday
 pub mod InitRun
 pub use Rattle.dali_line.specs.Commands
+pub use Rattle.dali_line.specs.Lines
+pub use Rattle.dali_machine.specs.History
+pub use Rattle.dali_machine.specs.Step
+pub use Rattle.dali_reply.specs.Reply
 pub use Rattle.dali_outside.specs.Outside
 pub use Rattle.dali_outside.specs.Stops
 pub use Rattle.dali_journal.specs.Holds

@@ -1,106 +1,91 @@
-ghost use Rattle.std.specs.Prelude.{◌≡◌, ◌≤◌, ◌<◌, ◌+◌, ◌++◌, length, IfOk, OnOk, OnErr, IsTrue};
-ghost use Rattle.dali_outside.specs.Outside.{Rose, Goes};
-ghost use Rattle.dali_line.specs.Commands.{commands};
-ghost use Rattle.dali_desk.specs.Step.{after as state_after, answer as answer_of, reply_text as text_of_reply, code_text, text_of};
-ghost use Rattle.dali_desk.specs.DayRun.{DayRun, PrintsFront};
+ghost use Rattle.std.specs.Prelude.{◌≡◌, ◌+◌, ◌<◌, ◌≤◌, ◌^◌, ℕ, IfErr, OnOk, IsTrue};
+ghost use Rattle.dali_outside.specs.Outside.{Feed, Sight};
+ghost use Rattle.dali_line.specs.Line.{is_line};
+ghost use Rattle.dali_line.specs.Lines.{MOST_OF_FILE};
+ghost use Rattle.dali_desk.specs.TextOf.{plain_entry};
+ghost use Rattle.dali_desk.specs.DayRun.{DayRun};
+ghost use Rattle.dali_desk.specs.Midday.{Midday, Answers, status_of_end};
 
-use crate::MOST_BYTES;
-use crate::reading::fill;
-use crate::state::{Code, Reply, State};
 use crate::status::Status;
-use dali_base::{OutOfMemory, Text};
-use dali_line::split_command;
+use dali_base::OutOfMemory;
+use dali_line::{Line, LineEnd, Lines};
+use dali_machine::State;
 use dali_outside::{Failed, Site, Source};
+use dali_reply::reply;
 use std::alloc::Global;
 
-/// The room for a day file and one byte more, which shows that a file is long.
-const ROOM: usize = MOST_BYTES + 1;
+/// The edition of a day without a journal.
+const EDITION: u8 = 1;
 
-/// Why no more replies are printed.
-#[derive(Clone, Copy)]
-pub(crate) enum Stop {
-    PrintFault,
-    OutOfMemory,
-}
-
-/// Takes the day file from the source, and prints the reply to each of its commands. The whole file is read before
-/// the first command.
+/// Takes the commands of the day file as they come from the source, and prints the reply to each.
 pub(crate) fn take_day<S: Source, T: Site>(alloc: Global, source: &mut S, site: &mut T) -> Status
     ensures { DayRun S.tells T.tells (S.feed source.old) (S.feed source.new) (T.sight site.old) (T.sight site.new) result }
 {
-    let mut buffer = [0; ROOM];
-    match fill(source, &mut buffer) {
-        Ok(ROOM) => Status::LongFile,
-        Ok(n) => match take_commands(alloc, &buffer[..n], site) {
-            Ok(()) => Status::Done,
-            Err(Stop::PrintFault) => Status::PrintFault,
-            Err(Stop::OutOfMemory) => Status::OutOfMemory,
-        },
-        Err(Failed) => Status::ReadFault,
-    }
-}
-
-/// Prints the reply to each command of the text, in order, each in one put.
-fn take_commands<T: Site>(alloc: Global, text: &[u8], site: &mut T) -> Result<(), Stop>
-    requires { length text.now ≤ MOST_BYTES }
-    ensures done { IsTrue T.tells → OnOk result ((T.sight site.new).printed ≡ (T.sight site.old).printed ++ text_of (commands text.now)) }
-    ensures front { IsTrue T.tells → PrintsFront (text_of (commands text.now)) (T.sight site.old) (T.sight site.new) }
-    ensures goes { Goes (T.sight site.old) (T.sight site.new) }
-    ensures fault { result ≡ Err Stop.PrintFault → Rose (T.sight site.old).print_faults (T.sight site.new).print_faults }
-{
+    let Ok(mut lines) = Lines::new(alloc) else {
+        return Status::OutOfMemory;
+    };
     let mut state = State::new(alloc);
-    let mut rest = text;
-    while let Some((line, behind)) = split_command(rest) {
-        answer(alloc, &mut state, line, site)?;
-        rest = behind;
-    }
-    Ok(())
-}
-
-/// Takes the command of this line, and prints the reply to it in one put.
-fn answer<T: Site>(alloc: Global, state: &mut State, line: &[u8], site: &mut T) -> Result<(), Stop>
-    requires { state.old.commands < MOST_BYTES }
-    ensures state { OnOk result (state.new ≡ state_after state.old line.now) }
-    ensures printed { IsTrue T.tells → OnOk result ((T.sight site.new).printed ≡ (T.sight site.old).printed ++ answer_of state.old line.now) }
-    ensures front { IsTrue T.tells → PrintsFront (answer_of state.old line.now) (T.sight site.old) (T.sight site.new) }
-    ensures goes { Goes (T.sight site.old) (T.sight site.new) }
-    ensures fault { result ≡ Err Stop.PrintFault → Rose (T.sight site.old).print_faults (T.sight site.new).print_faults }
-{
-    let Ok(reply) = state.take(line) else {
-        return Err(Stop::OutOfMemory);
-    };
-    let Ok(text) = reply_text(alloc, state.commands(), reply) else {
-        return Err(Stop::OutOfMemory);
-    };
-    match site.put(text.bytes()) {
-        Ok(()) => Ok(()),
-        Err(Failed) => Err(Stop::PrintFault),
-    }
-}
-
-/// The reply to a command of this number, a line with its LF.
-fn reply_text(alloc: Global, number: u64, reply: Reply) -> Result<Text, OutOfMemory>
-    ensures { IfOk result (λ text. text ≡ text_of_reply number reply) }
-{
-    let mut text = Text::new(alloc);
-    text.add_number(number)?;
-    match reply {
-        Reply::Done => text.add(b",OK\n")?,
-        Reply::No(code) => {
-            text.add(b",NO,")?;
-            text.add(code_bytes(code))?;
-            text.add(b"\n")?;
+    loop {
+        if let Err(status) = take_next(alloc, &mut lines, &mut state, source, site) {
+            return status;
         }
     }
-    Ok(text)
 }
 
-fn code_bytes(code: Code) -> &'static [u8]
-    ensures { result.now ≡ code_text code }
+/// Takes the next command and prints the reply to it. An error is how the day ends, at the end of input too.
+fn take_next<S: Source, T: Site>(
+    alloc: Global,
+    lines: &mut Lines,
+    state: &mut State,
+    source: &mut S,
+    site: &mut T,
+) -> Result<(), Status>
+    requires counted { state.old.machine.commands ≤ lines.old.given }
+    ensures taken { (feed : Feed) (sight : Sight) → Midday S.tells T.tells feed sight lines.old state.old.machine (S.feed source.old) (T.sight site.old) → OnOk result (Midday S.tells T.tells feed sight lines.new state.new.machine (S.feed source.new) (T.sight site.new)) }
+    ensures ended { (feed : Feed) (sight : Sight) → Midday S.tells T.tells feed sight lines.old state.old.machine (S.feed source.old) (T.sight site.old) → IfErr result (DayRun S.tells T.tells feed (S.feed source.new) sight (T.sight site.new)) }
+    ensures given { OnOk result (lines.new.given ≡ lines.old.given + 1) }
+    ensures bounded { lines.new.given ≤ MOST_OF_FILE }
 {
-    match code {
-        Code::Form => b"FORM",
-        Code::There => b"THERE",
-        Code::Name => b"NAME",
+    match lines.next(source) {
+        Ok(Some(line)) => answer(alloc, state, &line, site),
+        Ok(None) => Err(Status::Done),
+        Err(end) => Err(status_of(end)),
+    }
+}
+
+/// Takes the command of this line and prints the reply to it, in one put. An error is how the day ends.
+fn answer<T: Site>(
+    alloc: Global,
+    state: &mut State,
+    line: &Line,
+    site: &mut T,
+) -> Result<(), Status>
+    requires few { state.old.machine.commands < 2 ^ 63 }
+    ensures line { IsTrue (is_line line.now) }
+    ensures answers { Answers T.tells (plain_entry line.now) state.old.machine state.new.machine (T.sight site.old) (T.sight site.new) result }
+{
+    let _bytes = line.bytes();
+    let Ok(ready) = state.prepare(EDITION, line) else {
+        return Err(Status::OutOfMemory);
+    };
+    let Ok(text) = reply(alloc, ready.number(), ready.outcome()) else {
+        return Err(Status::OutOfMemory);
+    };
+    let _outcome = state.commit(ready);
+    match site.put(text.bytes()) {
+        Ok(()) => Ok(()),
+        Err(Failed) => Err(Status::PrintFault),
+    }
+}
+
+/// How the day ends where the reader of lines gives no more.
+fn status_of(end: LineEnd) -> Status
+    ensures { result ≡ status_of_end end }
+{
+    match end {
+        LineEnd::ReadFault => Status::ReadFault,
+        LineEnd::LongLine { command } => Status::LongLine { command },
+        LineEnd::LongFile => Status::LongFile,
+        LineEnd::OutOfMemory => Status::OutOfMemory,
     }
 }

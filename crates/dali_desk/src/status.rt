@@ -1,5 +1,5 @@
-ghost use Rattle.std.specs.Prelude.{◌≡◌, ◌≤◌, take, length};
-ghost use Rattle.dali_desk.specs.StatusLine.{line_of, number_of};
+ghost use Rattle.std.specs.Prelude.{◌≡◌, ◌+◌, ◌++◌, ◌≤◌, take, length};
+ghost use Rattle.dali_desk.specs.StatusLine.{line_of, words_of as words_of_status, number_of};
 
 /// How a run ended.
 #[derive(Clone, Copy, Debug, PartialEq, Eq)]
@@ -14,7 +14,9 @@ pub enum Status {
     PrintFault,
     /// The disk failed.
     DiskFault,
-    /// The file has more bytes than a day file may have.
+    /// This command, counted from 1, has more than 200 bytes.
+    LongLine { command: u64 },
+    /// The next command doesn't end within the 67,108,864 bytes that a day file may have.
     LongFile,
     /// Memory was wanted and wasn't there.
     OutOfMemory,
@@ -23,16 +25,33 @@ pub enum Status {
 /// The line that the program prints on standard error for the status, without LF, put into the front of `into`; its
 /// length is returned, which is 0 at `Done`. The lines are defined in `specs/StatusLine.antt`. Takes no memory.
 pub fn status_line(status: &Status, into: &mut [u8; 160]) -> usize
-    ensures { take result into.new ≡ line_of status.now }
+    ensures line { take result into.new ≡ line_of status.now }
+    ensures within { result ≤ 160 }
 {
-    let line = line(status);
-    into[..line.len()].copy_from_slice(line);
-    line.len()
+    let len = put_behind(into, 0, words_of(status));
+    match status {
+        Status::LongLine { command } => {
+            let mut buffer = itoa::Buffer::new();
+            put_behind(into, len, buffer.format(*command).as_bytes())
+        }
+        _ => len,
+    }
 }
 
-fn line(status: &Status) -> &'static [u8]
-    ensures line { result.now ≡ line_of status.now }
-    ensures short { length result.now ≤ 160 }
+/// Puts the bytes behind the first `len` ones, and answers how many these are then.
+fn put_behind(into: &mut [u8; 160], len: usize, bytes: &[u8]) -> usize
+    requires { len + length bytes.now ≤ 160 }
+    ensures put { take result into.new ≡ take len into.old ++ bytes.now }
+    ensures len { result ≡ len + length bytes.now }
+{
+    into[len..len + bytes.len()].copy_from_slice(bytes);
+    len + bytes.len()
+}
+
+/// The words of a status's line.
+fn words_of(status: &Status) -> &'static [u8]
+    ensures words { result.now ≡ words_of_status status.now }
+    ensures short { length result.now ≤ 141 }
 {
     match status {
         Status::Done => b"",
@@ -41,6 +60,7 @@ fn line(status: &Status) -> &'static [u8]
         Status::ReadFault => b"dali: read fault",
         Status::PrintFault => b"dali: print fault",
         Status::DiskFault => b"dali: disk fault",
+        Status::LongLine { .. } => b"dali: long line at command ",
         Status::LongFile => b"dali: long file",
         Status::OutOfMemory => b"dali: out of memory",
     }
@@ -56,6 +76,7 @@ pub fn exit_number(status: &Status) -> u8
         Status::ReadFault => 3,
         Status::PrintFault => 4,
         Status::DiskFault => 5,
+        Status::LongLine { .. } => 8,
         Status::LongFile => 9,
         Status::OutOfMemory => 11,
     }

@@ -23,16 +23,6 @@ fn words(alloc: Global, given: &[&[u8]]) -> Result<Words, OutOfMemory> {
     Ok(words)
 }
 
-/// The words `day J`.
-fn day_words(alloc: Global) -> Result<Words, OutOfMemory>
-    ensures { IfOk result (λ words. words ≡ codes "day" ∷ codes "J" ∷ []) }
-{
-    let mut words = Words::new(alloc);
-    words.push(text(alloc, b"day")?)?;
-    words.push(text(alloc, b"J")?)?;
-    Ok(words)
-}
-
 /// No failures, or one: this call, with `went` bytes of its piece gone through.
 fn faults(alloc: Global, fault: Option<Fault>) -> Result<Faults, OutOfMemory> {
     let mut faults = Faults::new(alloc);
@@ -42,86 +32,7 @@ fn faults(alloc: Global, fault: Option<Fault>) -> Result<Faults, OutOfMemory> {
     Ok(faults)
 }
 
-/// How `day J` over this file ends, and what it prints.
-fn day(
-    alloc: Global,
-    file: &[u8],
-    piece: u32,
-    take: Option<Fault>,
-    put: Option<Fault>,
-) -> Result<(Status, Text), OutOfMemory>
-    requires { 1 ≤ piece }
-{
-    let words = day_words(alloc)?;
-    let mut source = MemSource::new(text(alloc, file)?, piece, faults(alloc, take)?);
-    let mut site = MemSite::new(alloc, 0, 4096, 64, 0, faults(alloc, put)?)?;
-    let status = run(alloc, &words, &mut source, &mut site);
-    Ok((status, text(alloc, site.printed())?))
-}
-
 const THREE_LINES: &[u8] = b"080000,PART,A\n080000,PART,B\n080001,ISSUE,A,MXN,100\n";
-
-const THREE_REPLIES: &[u8] = b"1,OK\n2,OK\n3,OK\n";
-
-#[test]
-fn days(rt: HostRuntime) -> Result<(), Fail> {
-    let refused: &[u8] = b"080000,PART,A\n080000,PART,A\n080000,ISSUE,B,MXN,1\nx\n";
-    let refusals: &[u8] = b"1,OK\n2,NO,THERE\n3,NO,NAME\n4,NO,FORM\n";
-    let cases: [(&[u8], &[u8]); 7] = [
-        (THREE_LINES, THREE_REPLIES),
-        // A verb that isn't built yet.
-        (b"080000,QUEUE\n", b"1,NO,FORM\n"),
-        (refused, refusals),
-        (b"", b""),
-        // The CR before an LF, comments and empty lines are passed over, and the last line needs no LF.
-        (
-            b"# day\r\n\r\n080000,PART,A\r\n\n080000,PART,B\r\n080001,ISSUE,A,MXN,100",
-            THREE_REPLIES,
-        ),
-        // A CR that no LF follows is part of the line.
-        (b"080000,PART,A\r", b"1,NO,FORM\n"),
-        (b"080000,PART,A\n080000,ISSUE,A,X,1\n", b"1,OK\n2,NO,NAME\n"),
-    ];
-    for (file, replies) in cases {
-        for piece in [1, 7, 4096] {
-            let (status, printed) = day(rt.alloc(), file, piece, None, None)?;
-            assert_eq!(rt; status, Status::Done);
-            assert_eq!(rt; printed.bytes(), replies);
-        }
-    }
-    Ok(())
-}
-
-#[test]
-fn faults_one_at_a_time(rt: HostRuntime) -> Result<(), Fail> {
-    for call in [1, 3] {
-        let fault = Fault { call, went: 0 };
-        let (status, printed) = day(rt.alloc(), THREE_LINES, 20, Some(fault), None)?;
-        assert_eq!(rt; status, Status::ReadFault);
-        assert!(rt; printed.is_empty());
-    }
-    let fault = Fault { call: 2, went: 2 };
-    let (status, printed) = day(rt.alloc(), THREE_LINES, 20, None, Some(fault))?;
-    assert_eq!(rt; status, Status::PrintFault);
-    assert_eq!(rt; printed.bytes(), b"1,OK\n2,".as_slice());
-    Ok(())
-}
-
-#[test]
-fn long_file(rt: HostRuntime) -> Result<(), Fail> {
-    let mut file = text(rt.alloc(), b"080000,PART,A\n#")?;
-    for _ in 15..4096 {
-        file.push(b'x')?;
-    }
-    let (status, printed) = day(rt.alloc(), file.bytes(), 1000, None, None)?;
-    assert_eq!(rt; status, Status::Done);
-    assert_eq!(rt; printed.bytes(), b"1,OK\n".as_slice());
-    file.push(b'x')?;
-    let (status, printed) = day(rt.alloc(), file.bytes(), 1000, None, None)?;
-    assert_eq!(rt; status, Status::LongFile);
-    assert!(rt; printed.is_empty());
-    Ok(())
-}
 
 #[test]
 fn other_words(rt: HostRuntime) -> Result<(), Fail> {
@@ -160,7 +71,7 @@ fn no_words(rt: HostRuntime) -> Result<(), Fail> {
 
 #[test]
 fn status_lines(rt: HostRuntime) {
-    let cases: [(Status, &[u8], u8); 7] = [
+    let cases: [(Status, &[u8], u8); 9] = [
         (Status::Done, b"", 0),
         (
             Status::Usage,
@@ -170,6 +81,16 @@ fn status_lines(rt: HostRuntime) {
         (Status::ReadFault, b"dali: read fault", 3),
         (Status::PrintFault, b"dali: print fault", 4),
         (Status::DiskFault, b"dali: disk fault", 5),
+        (
+            Status::LongLine { command: 1 },
+            b"dali: long line at command 1",
+            8,
+        ),
+        (
+            Status::LongLine { command: u64::MAX },
+            b"dali: long line at command 18446744073709551615",
+            8,
+        ),
         (Status::LongFile, b"dali: long file", 9),
         (Status::OutOfMemory, b"dali: out of memory", 11),
     ];

@@ -1,0 +1,197 @@
+use Rattle.std.proofs.Common.{◌≡◌, ◌∙◌, ℕ, ◌+◌, ◌≤◌, Bool, true, false, List, [], ◌∷◌, ◌++◌, length, refl, sym, ap, subst, arith, append_assoc, append-nil}
+use Rattle.std.specs.Prelude.{IsTrue, Result, Ok, Err, Option, Some, None, OnOk, IfErr}
+use Rattle.std.specs.List.{All}
+use Rattle.std.proofs.lemmas.List.Elements.{All-push, All-nil}
+use Rattle.dali_outside.specs.Outside.{Feed, Sight, Rose}
+use Rattle.dali_line.specs.Line.{is_line}
+use Rattle.dali_line.specs.Commands.{commands}
+use Rattle.dali_line.specs.Lines.{Reader, Gives, Ends, Stops, MOST_OF_FILE, reached}
+use Rattle.dali_line.specs.declared.line_end.LineEnd.{LineEnd}
+use Rattle.dali_line.specs.declared.line_end.LineEnd.TheVariants as ends
+use Rattle.dali_machine.specs.Machine.{Machine, opening}
+use Rattle.dali_machine.specs.Step.{step}
+use Rattle.dali_machine.specs.History.{EntryRecord, state_after, state_of}
+use Rattle.dali_desk.specs.declared.status.Status.{Status}
+use Rattle.dali_desk.specs.declared.status.Status.TheVariants.{Done, Usage, ReadFault, PrintFault, DiskFault, LongLine, LongFile, OutOfMemory}
+use Rattle.dali_desk.specs.TextOf.{answer_to, texts, text_of, plain_entry, plain_history}
+use Rattle.dali_desk.specs.DayRun.{TakenAt, TakesDay, PrintsDay, PrintsFront, DayRun}
+use Rattle.dali_desk.specs.Midday.{Reads, Quiet, Midday, Takes, BreaksOffIn, Answers, status_of_end}
+use Rattle.dali_desk.proofs.Printing.{front_behind}
+use Rattle.dali_desk.proofs.ReadingOn.{reads_start, reads_line, reads_first, all_read, all_over, moves_on}
+use Rattle.dali_desk.proofs.Endings.{all_short, broken_off, past_limit, found_long, wants_memory}
+use Rattle.dali_desk.proofs.Days.{texts_more, state_more, plain_more, quiet_start, quiet_on, ended}
+
+pub midday_start : (s t : Bool) (feed : Feed) (sight : Sight) (reader : Reader) (machine : Machine) → reader ≡ record { pending = []; taken = 0; given = 0; over = false } → machine ≡ opening → Midday s t feed sight reader machine feed sight
+midday_start s t feed sight reader machine new first = subst (λ r. Midday s t feed sight r machine feed sight) (sym new) (subst (λ m. Midday s t feed sight (record { pending = []; taken = 0; given = 0; over = false }) m feed sight) (sym first) (record {
+  lines = [];
+  are = All-nil (λ line. IsTrue (is_line line));
+  reads = reads_start s feed;
+  faults = omega arith;
+  state = refl;
+  counted = omega arith;
+  quiet = quiet_start t sight;
+  text = λ _. sym (append-nil sight.printed);
+}))
+
+-- the text of the lines and of one more
+text_more : (lines : List (List ℕ)) (line : List ℕ) (machine : Machine) → machine ≡ state_of (plain_history lines) →
+    text_of (plain_history (lines ++ line ∷ [])) ≡ text_of (plain_history lines) ++ answer_to machine (plain_entry line)
+text_more lines line machine is =
+    ap text_of (plain_more lines line) ∙ texts_more opening (plain_history lines) (plain_entry line)
+    ∙ ap (λ m. text_of (plain_history lines) ++ answer_to m (plain_entry line)) (sym is)
+
+-- one more command was taken
+pub midday_more : (s t : Bool) (old : Feed) (before : Sight) (reader new : Reader) (machine next : Machine) (feed after : Feed) (sight then : Sight) (line : List ℕ) →
+    Midday s t old before reader machine feed sight → reader.over ≡ false → Gives s line reader new feed after → feed.faults ≤ after.faults → IsTrue (is_line line) →
+    Quiet t sight then → Takes t (plain_entry line) machine next sight then → Midday s t old before new next after then
+midday_more s t old before reader new machine next feed after sight then line day running gives faults is quiet takes = record {
+  lines = day.lines ++ line ∷ [];
+  are = All-push (λ l. IsTrue (is_line l)) day.lines line day.are is;
+  reads = reads_line s old day.lines reader new feed after line day.reads running gives;
+  faults = omega (arith, day.faults, faults);
+  state = takes.next ∙ ap (λ m. (step 1 m line).next) day.state ∙ sym (ap state_of (plain_more day.lines line) ∙ state_more opening (plain_history day.lines) (plain_entry line));
+  counted = omega (arith, takes.commands, day.counted, gives.given);
+  quiet = quiet_on t before sight then day.quiet quiet;
+  text = λ told. takes.printed told ∙ ap (λ xs. xs ++ answer_to machine (plain_entry line)) (day.text told)
+      ∙ append_assoc before.printed (text_of (plain_history day.lines)) (answer_to machine (plain_entry line))
+      ∙ ap (λ xs. before.printed ++ xs) (sym (text_more day.lines line machine day.state));
+}
+
+-- the end of input, met now
+pub day_done : (s t : Bool) (old : Feed) (before : Sight) (reader new : Reader) (machine : Machine) (feed after : Feed) (sight : Sight) →
+    Midday s t old before reader machine feed sight → reader.over ≡ false → Ends s reader new feed after → feed.faults ≤ after.faults → DayRun s t old after before sight Done
+day_done s t old before reader new machine feed after sight day running end faults =
+    ended s t old after before sight Done tt (λ is. absurd (Prim.cc)) (λ is. absurd (Prim.cc)) (omega (arith, day.faults, faults)) day.quiet day.lines day.are
+    (λ told. record {
+      taken = day.reads.got ++ end.meets.got;
+      moved = moves_on old.left day.reads.got feed.left end.meets.got after.left (day.reads.moved told) (end.meets.gets.moved told);
+      first = reads_first s old day.lines reader feed day.reads told;
+      at = all_read s old day.lines reader new feed after day.reads running end told;
+    }) day.text
+
+-- the end of input, met behind the last command
+pub day_over : (s t : Bool) (old : Feed) (before : Sight) (reader : Reader) (machine : Machine) (feed : Feed) (sight : Sight) →
+    Midday s t old before reader machine feed sight → reader.over ≡ true → DayRun s t old feed before sight Done
+day_over s t old before reader machine feed sight day over =
+    ended s t old feed before sight Done tt (λ is. absurd (Prim.cc)) (λ is. absurd (Prim.cc)) day.faults day.quiet day.lines day.are
+    (λ told. record {
+      taken = day.reads.got;
+      moved = day.reads.moved told;
+      first = reads_first s old day.lines reader feed day.reads told;
+      at = all_over s old day.lines reader feed day.reads over told;
+    }) day.text
+
+-- the reader of lines stopped
+pub day_stopped : (s t : Bool) (old : Feed) (before : Sight) (reader new : Reader) (machine : Machine) (feed after : Feed) (sight : Sight) (end : LineEnd) →
+    Midday s t old before reader machine feed sight → reader.over ≡ false → Stops s (reader.given + 1) (reached reader feed) (reached new after) end → feed.faults ≤ after.faults →
+    (end ≡ ends.ReadFault → Rose feed.faults after.faults) → DayRun s t old after before sight (status_of_end end)
+day_stopped s t old before reader new machine feed after sight ends.ReadFault day running stop faults rose =
+    ended s t old after before sight ReadFault tt (λ is. omega (arith, rose refl, day.faults)) (λ is. absurd (Prim.cc)) (omega (arith, day.faults, faults)) day.quiet day.lines day.are
+    (λ told. record {
+      taken = day.reads.got ++ stop.got;
+      moved = moves_on old.left day.reads.got feed.left stop.got after.left (day.reads.moved told) (stop.gets.moved told);
+      first = reads_first s old day.lines reader feed day.reads told;
+      at = broken_off s old day.lines reader new feed after day.reads running (all_short day.lines day.are) stop;
+    }) day.text
+day_stopped s t old before reader new machine feed after sight (ends.LongLine k) day running stop faults rose =
+    ended s t old after before sight (LongLine k) tt (λ is. absurd (Prim.cc)) (λ is. absurd (Prim.cc)) (omega (arith, day.faults, faults)) day.quiet day.lines day.are
+    (λ told. record {
+      taken = day.reads.got ++ stop.1.got;
+      moved = moves_on old.left day.reads.got feed.left stop.1.got after.left (day.reads.moved told) (stop.1.moved told);
+      first = reads_first s old day.lines reader feed day.reads told;
+      at = subst (λ n. TakenAt (LongLine n) (day.reads.got ++ stop.1.got) after.left day.lines) (sym stop.0)
+          (found_long s old day.lines reader new feed after day.reads running told stop.1);
+    }) day.text
+day_stopped s t old before reader new machine feed after sight ends.LongFile day running stop faults rose =
+    ended s t old after before sight LongFile tt (λ is. absurd (Prim.cc)) (λ is. absurd (Prim.cc)) (omega (arith, day.faults, faults)) day.quiet day.lines day.are
+    (λ told. record {
+      taken = day.reads.got ++ (stop.got ++ stop.past ∷ []);
+      moved = moves_on old.left day.reads.got feed.left (stop.got ++ stop.past ∷ []) after.left (day.reads.moved told) (stop.moved told);
+      first = reads_first s old day.lines reader feed day.reads told;
+      at = past_limit s old day.lines reader new feed after day.reads running (all_short day.lines day.are) stop;
+    }) day.text
+day_stopped s t old before reader new machine feed after sight ends.OutOfMemory day running stop faults rose =
+    ended s t old after before sight OutOfMemory tt (λ is. absurd (Prim.cc)) (λ is. absurd (Prim.cc)) (omega (arith, day.faults, faults)) day.quiet day.lines day.are
+    (λ told. record {
+      taken = day.reads.got ++ stop.got;
+      moved = moves_on old.left day.reads.got feed.left stop.got after.left (day.reads.moved told) (stop.moved told);
+      first = reads_first s old day.lines reader feed day.reads told;
+      at = wants_memory s old day.lines reader new feed after day.reads stop;
+    }) day.text
+
+-- memory was wanted for a command that was read
+pub day_wants : (s t : Bool) (old : Feed) (before : Sight) (reader new : Reader) (machine : Machine) (feed after : Feed) (sight then : Sight) (line : List ℕ) →
+    Midday s t old before reader machine feed sight → reader.over ≡ false → Gives s line reader new feed after → feed.faults ≤ after.faults →
+    Quiet t sight then → (IsTrue t → then.printed ≡ sight.printed) → DayRun s t old after before then OutOfMemory
+day_wants s t old before reader new machine feed after sight then line day running gives faults quiet same =
+    let reads = reads_line s old day.lines reader new feed after line day.reads running gives in
+    ended s t old after before then OutOfMemory tt (λ is. absurd (Prim.cc)) (λ is. absurd (Prim.cc)) (omega (arith, day.faults, faults)) (quiet_on t before sight then day.quiet quiet) day.lines day.are
+    (λ told. record {
+      taken = reads.got;
+      moved = reads.moved told;
+      first = reads_first s old day.lines reader feed day.reads told;
+      at = omega (arith, reads.taken, reads.within);
+    })
+    (λ told. same told ∙ day.text told)
+
+-- a reply could not be printed
+pub day_unprinted : (s t : Bool) (old : Feed) (before : Sight) (reader new : Reader) (machine : Machine) (feed after : Feed) (sight then : Sight) (line : List ℕ) →
+    Midday s t old before reader machine feed sight → reader.over ≡ false → Gives s line reader new feed after → feed.faults ≤ after.faults → IsTrue (is_line line) →
+    Quiet t sight then → BreaksOffIn t (plain_entry line) machine sight then → DayRun s t old after before then PrintFault
+day_unprinted s t old before reader new machine feed after sight then line day running gives faults is quiet breaks =
+    let reads = reads_line s old day.lines reader new feed after line day.reads running gives in
+    ended s t old after before then PrintFault tt (λ e. absurd (Prim.cc)) (λ e. omega (arith, breaks.rose, day.quiet.goes.print)) (omega (arith, day.faults, faults)) (quiet_on t before sight then day.quiet quiet)
+    (day.lines ++ line ∷ []) (All-push (λ l. IsTrue (is_line l)) day.lines line day.are is)
+    (λ told. record {
+      taken = reads.got;
+      moved = reads.moved told;
+      first = reads_first s old (day.lines ++ line ∷ []) new after reads told;
+      at = omega (arith, reads.taken, reads.within);
+    })
+    (λ told. subst (λ text. PrintsFront text before then) (sym (text_more day.lines line machine day.state))
+    (front_behind (text_of (plain_history day.lines)) (answer_to machine (plain_entry line)) before sight then (day.text told) (breaks.front told)))
+
+-- no memory for the reader of lines
+pub day_unopened : (s t : Bool) (feed : Feed) (sight : Sight) → DayRun s t feed feed sight sight OutOfMemory
+day_unopened s t feed sight =
+    ended s t feed feed sight sight OutOfMemory tt (λ is. absurd (Prim.cc)) (λ is. absurd (Prim.cc)) (omega arith) (quiet_start t sight) [] (All-nil (λ line. IsTrue (is_line line)))
+    (λ told. record { taken = []; moved = refl; first = record { rest = commands feed.left; parts = refl }; at = omega arith })
+    (λ told. sym (append-nil sight.printed))
+
+-- a reader that gave an answer that one that is over doesn't give isn't over
+pub is_running : {X E : Type 0} (b : Bool) (r : Result (Option X) E) → (b ≡ true → r ≡ Ok None) → (r ≡ Ok None → ⊥) → b ≡ false
+is_running true r over other = absurd (other (over refl))
+is_running false r over other = refl
+
+-- what taking a command comes to
+pub goes_on_day : (s t : Bool) (old : Feed) (before : Sight) (reader new : Reader) (machine next : Machine) (feed after : Feed) (sight then : Sight) (line : List ℕ) (result : Result Unit Status) →
+    reader.over ≡ false → Gives s line reader new feed after → feed.faults ≤ after.faults → IsTrue (is_line line) → Answers t (plain_entry line) machine next sight then result →
+    Midday s t old before reader machine feed sight → OnOk result (Midday s t old before new next after then)
+goes_on_day s t old before reader new machine next feed after sight then line (Ok u) running gives faults is answers day =
+    midday_more s t old before reader new machine next feed after sight then line day running gives faults is answers.quiet answers.came
+goes_on_day s t old before reader new machine next feed after sight then line (Err e) running gives faults is answers day = tt
+
+pub ends_day : (s t : Bool) (old : Feed) (before : Sight) (reader new : Reader) (machine next : Machine) (feed after : Feed) (sight then : Sight) (line : List ℕ) (result : Result Unit Status) →
+    reader.over ≡ false → Gives s line reader new feed after → feed.faults ≤ after.faults → IsTrue (is_line line) → Answers t (plain_entry line) machine next sight then result →
+    Midday s t old before reader machine feed sight → IfErr result (DayRun s t old after before then)
+ends_day s t old before reader new machine next feed after sight then line (Ok u) running gives faults is answers day = tt
+ends_day s t old before reader new machine next feed after sight then line (Err PrintFault) running gives faults is answers day =
+    day_unprinted s t old before reader new machine feed after sight then line day running gives faults is answers.quiet answers.came
+ends_day s t old before reader new machine next feed after sight then line (Err OutOfMemory) running gives faults is answers day =
+    day_wants s t old before reader new machine feed after sight then line day running gives faults answers.quiet answers.came
+ends_day s t old before reader new machine next feed after sight then line (Err Done) running gives faults is answers day = absurd answers.came
+ends_day s t old before reader new machine next feed after sight then line (Err Usage) running gives faults is answers day = absurd answers.came
+ends_day s t old before reader new machine next feed after sight then line (Err ReadFault) running gives faults is answers day = absurd answers.came
+ends_day s t old before reader new machine next feed after sight then line (Err DiskFault) running gives faults is answers day = absurd answers.came
+ends_day s t old before reader new machine next feed after sight then line (Err (LongLine k)) running gives faults is answers day = absurd answers.came
+ends_day s t old before reader new machine next feed after sight then line (Err LongFile) running gives faults is answers day = absurd answers.came
+
+-- the reader gives no line
+pub no_line : (s t : Bool) (old : Feed) (before : Sight) (reader new : Reader) (machine : Machine) (feed after : Feed) (sight : Sight) →
+    (reader.over ≡ true → (new ≡ reader) × (after ≡ feed)) → (reader.over ≡ false → Ends s reader new feed after) → feed.faults ≤ after.faults →
+    Midday s t old before reader machine feed sight → DayRun s t old after before sight Done
+no_line s t old before reader new machine feed after sight over ends faults day =
+    elim (reader.over) as (λ b. reader.over ≡ b → DayRun s t old after before sight Done) [
+      | true ↦ λ is. subst (λ f. DayRun s t old f before sight Done) (sym (over is).1) (day_over s t old before reader machine feed sight day is)
+      | false ↦ λ is. day_done s t old before reader new machine feed after sight day is (ends is) faults
+    ] refl

@@ -1,0 +1,85 @@
+use Rattle.std.specs.Prelude.{◌≡◌, ℕ, ◌+◌, ◌≤◌, Bool, true, false, IsTrue, List, [], ◌∷◌, ◌++◌, length, Result, Ok, Err}
+use Rattle.std.specs.List.{All}
+use Rattle.dali_outside.specs.Outside.{Feed, Sight, Rose, Goes, SameDisk}
+use Rattle.dali_line.specs.Commands.{commands, ended_commands}
+use Rattle.dali_line.specs.Line.{is_line}
+use Rattle.dali_line.specs.Lines.{Reader, MOST_OF_FILE}
+use Rattle.dali_line.specs.declared.line_end.LineEnd.{LineEnd}
+use Rattle.dali_line.specs.declared.line_end.LineEnd.TheVariants as ends
+use Rattle.dali_machine.specs.Machine.{Machine}
+use Rattle.dali_machine.specs.Step.{step}
+use Rattle.dali_machine.specs.History.{EntryRecord, state_of}
+use Rattle.dali_desk.specs.TextOf.{answer_to, text_of, plain_history}
+use Rattle.dali_desk.specs.DayRun.{PrintsFront}
+use Rattle.dali_desk.specs.declared.status.Status.{Status}
+use Rattle.dali_desk.specs.declared.status.Status.TheVariants.{Done, ReadFault, PrintFault, LongLine, LongFile, OutOfMemory}
+
+-- the bytes got gave these lines, and the commands of what is pending and of whatever follows come next
+pub record GoesOn (got : List ℕ) (given : List (List ℕ)) (pending : List ℕ) : Type 0 where
+  pub whole : (rest : List ℕ) → commands (got ++ rest) ≡ given ++ commands (pending ++ rest)
+  pub ended : (rest : List ℕ) → ended_commands (got ++ rest) ≡ given ++ ended_commands (pending ++ rest)
+
+-- the bytes got were all, and gave these lines
+pub record IsOver (told : Bool) (got : List ℕ) (given : List (List ℕ)) (left : List ℕ) : Type 0 where
+  pub whole : commands got ≡ given
+  pub end : IsTrue told → left ≡ []
+
+abbrev pub IsFar : Bool → Bool → List ℕ → List (List ℕ) → List ℕ → List ℕ → Type 0
+IsFar told false got given pending left = GoesOn got given pending
+IsFar told true got given pending left = IsOver told got given left
+
+-- how far the input was read since the start: these lines were given
+pub record Reads (told : Bool) (old : Feed) (given : List (List ℕ)) (reader : Reader) (feed : Feed) : Type 0 where
+  pub count : reader.given ≡ length given
+  pub got : List ℕ
+  pub moved : IsTrue told → old.left ≡ got ++ feed.left
+  pub taken : reader.taken ≡ length got
+  pub within : reader.taken ≤ MOST_OF_FILE
+  pub far : IsFar told reader.over got given reader.pending feed.left
+
+-- the disk and the counts since some moment
+pub record Quiet (told : Bool) (old new : Sight) : Type 0 where
+  pub goes : Goes old new
+  pub disk : IsTrue told → SameDisk old new
+  pub syncs : new.syncs ≤ old.syncs
+
+-- A day between two commands: these lines were taken since the start, the state is that of their history, and its text
+-- was printed.
+pub record Midday (source_tells site_tells : Bool) (old : Feed) (before : Sight) (reader : Reader) (machine : Machine) (feed : Feed) (sight : Sight) : Type 0 where
+  pub lines : List (List ℕ)
+  pub are : All (λ line. IsTrue (is_line line)) lines
+  pub reads : Reads source_tells old lines reader feed
+  pub faults : old.faults ≤ feed.faults
+  pub state : machine ≡ state_of (plain_history lines)
+  pub counted : machine.commands ≤ reader.given
+  pub quiet : Quiet site_tells before sight
+  pub text : IsTrue site_tells → sight.printed ≡ before.printed ++ text_of (plain_history lines)
+
+-- a command was taken and its reply printed
+pub record Takes (told : Bool) (e : EntryRecord) (old new : Machine) (before after : Sight) : Type 0 where
+  pub next : new ≡ (step e.edition old e.line).next
+  pub commands : new.commands ≡ old.commands + 1
+  pub printed : IsTrue told → after.printed ≡ before.printed ++ answer_to old e
+
+-- a command was taken, and of its reply a front printed
+pub record BreaksOffIn (told : Bool) (e : EntryRecord) (old : Machine) (before after : Sight) : Type 0 where
+  pub front : IsTrue told → PrintsFront (answer_to old e) before after
+  pub rose : Rose before.print_faults after.print_faults
+
+-- what taking one command came to
+abbrev pub AnswersAs : Bool → EntryRecord → Machine → Machine → Sight → Sight → Result Unit Status → Type 0
+AnswersAs told e old new before after (Ok u) = Takes told e old new before after
+AnswersAs told e old new before after (Err PrintFault) = BreaksOffIn told e old before after
+AnswersAs told e old new before after (Err OutOfMemory) = IsTrue told → after.printed ≡ before.printed
+AnswersAs told e old new before after (Err status) = ⊥
+
+pub record Answers (told : Bool) (e : EntryRecord) (old new : Machine) (before after : Sight) (result : Result Unit Status) : Type 0 where
+  pub quiet : Quiet told before after
+  pub came : AnswersAs told e old new before after result
+
+-- how the day ends where the reader of lines gives no more
+abbrev pub status_of_end : LineEnd → Status
+status_of_end ends.ReadFault = ReadFault
+status_of_end (ends.LongLine k) = LongLine k
+status_of_end ends.LongFile = LongFile
+status_of_end ends.OutOfMemory = OutOfMemory
