@@ -1,0 +1,71 @@
+ghost use Rattle.std.specs.Prelude.{false, []};
+
+use crate::stage::{day, day_over, text};
+use dali_desk::Status;
+use dali_outside::{Failed, Fault, Faults, MemSource, Source};
+use std::test::Fail;
+
+const THREE_LINES: &[u8] = b"080000,PART,A\n080000,PART,B\n080001,ISSUE,A,MXN,100\n";
+
+/// A take that fails leaves the commands done that an LF had ended before.
+#[test]
+fn take_fails(rt: HostRuntime) -> Result<(), Fail> {
+    let cases: [(u64, &[u8]); 4] = [
+        (1, b""),
+        (2, b"1,OK\n"),
+        (3, b"1,OK\n2,OK\n"),
+        (4, b"1,OK\n2,OK\n3,OK\n"),
+    ];
+    for (call, replies) in cases {
+        let fault = Fault { call, went: 0 };
+        let (status, printed) = day(rt.alloc(), THREE_LINES, 20, Some(fault))?;
+        assert_eq!(rt; status, Status::ReadFault);
+        assert_eq!(rt; printed.bytes(), replies);
+    }
+    Ok(())
+}
+
+/// A put that fails in the middle of a reply leaves the replies before it whole.
+#[test]
+fn put_fails(rt: HostRuntime) -> Result<(), Fail> {
+    let alloc = rt.alloc();
+    let mut source = MemSource::new(text(alloc, THREE_LINES)?, 20, Faults::new(alloc));
+    let fault = Fault { call: 2, went: 2 };
+    let (status, printed) = day_over(alloc, &mut source, Some(fault))?;
+    assert_eq!(rt; status, Status::PrintFault);
+    assert_eq!(rt; printed.bytes(), b"1,OK\n2,".as_slice());
+    Ok(())
+}
+
+/// One command, and then a comment without end.
+#[derive(Drop)]
+struct Endless {
+    begun: bool,
+}
+
+impl Source for Endless {
+    ghost tells = { false };
+
+    ghost feed = { λ s. record { left = []; faults = 0 } };
+
+    fn take(&mut self, into: &mut [u8]) -> Result<usize, Failed> {
+        let first = b"080000,PART,A\n#";
+        if !self.begun && first.len() <= into.len() {
+            self.begun = true;
+            into[..first.len()].copy_from_slice(first);
+            return Ok(first.len());
+        }
+        into.fill(b'x');
+        Ok(into.len())
+    }
+}
+
+/// The commands that an LF ended within the limit are done.
+#[test]
+fn long_file(rt: HostRuntime) -> Result<(), Fail> {
+    let mut source = Endless { begun: false };
+    let (status, printed) = day_over(rt.alloc(), &mut source, None)?;
+    assert_eq!(rt; status, Status::LongFile);
+    assert_eq!(rt; printed.bytes(), b"1,OK\n".as_slice());
+    Ok(())
+}
