@@ -1,14 +1,12 @@
-use Rattle.std.proofs.Common.{◌≡◌, ◌∙◌, ℕ, ◌+◌, ◌<◌, ◌≤◌, Bool, true, false, cond, ltb, eqb, suc, Some, None, List, [], ◌∷◌, length, take, drop, refl, ap, arith}
+use Rattle.std.proofs.Common.{◌≡◌, ◌∙◌, ℕ, ◌+◌, ◌<◌, ◌≤◌, Bool, false, cond, ltb, eqb, suc, Some, None, List, [], ◌∷◌, length, take, drop, refl, ap, arith}
 use Rattle.std.proofs.lemmas.Bool.{ltb-true}
 use Rattle.std.proofs.lemmas.Bool.Decides.{nat_tests}
 use Rattle.std.proofs.lemmas.List.Elements.{All-from_get_or}
 use Rattle.std.proofs.lemmas.List.Sums.{fails_before_first}
 use Rattle.std.proofs.lemmas.List.Splits.{slice_split_first, slice_split_none, length-slice_split}
 use Rattle.std.specs.List.{slice_split, position, position_or_len}
-use Rattle.std.specs.Prelude.{filter}
-use Rattle.std.specs.Str.Lines.{lines, lines_of_parts, strip_carriage_return}
+use Rattle.std.specs.Str.Lines.{lines_of_parts, strip_carriage_return}
 use Rattle.dali_base.proofs.Spelled.{chosen}
-use Rattle.dali_line.specs.Commands.{is_command, commands}
 
 -- cut at the first element that passes
 pub split_some : (p : ℕ → Bool) (xs : List ℕ) (i : ℕ) → position p xs ≡ Some i → slice_split p xs ≡ take i xs ∷ slice_split p (drop (i + 1) xs)
@@ -42,10 +40,3 @@ suc_is_not_zero n = grind (arith, nat_tests)
 pub last_line : (piece : List ℕ) → 0 < length piece → lines_of_parts (piece ∷ []) ≡ piece ∷ []
 last_line [] some = absurd (omega (arith, some))
 last_line (b ∷ piece) some = ap (λ (t : Bool). cond t [] ((b ∷ piece) ∷ [])) (suc_is_not_zero (length piece))
-
--- the first line is a command, or is skipped
-pub command_first : (text line rest : List ℕ) → lines text ≡ line ∷ lines rest → is_command line ≡ true → commands text ≡ line ∷ commands rest
-command_first text line rest cut told = ap (filter is_command) cut ∙ ap (λ (t : Bool). cond t (line ∷ commands rest) (commands rest)) told
-
-pub skipped_first : (text line rest : List ℕ) → lines text ≡ line ∷ lines rest → is_command line ≡ false → commands text ≡ commands rest
-skipped_first text line rest cut told = ap (filter is_command) cut ∙ ap (λ (t : Bool). cond t (line ∷ commands rest) (commands rest)) told

@@ -74,7 +74,7 @@ line_found e line c spells =
     ∙ ap (option_and_then (λ v. option_and_then last (in_edition e v))) (verb_found c.verb spells.command.fields)
     ∙ ap (option_and_then last) (edition_found e c.verb spells.command.since spells.command.newest)
 
--- so both clauses of a reader of lines follow from its exact one
+-- so the other clauses of a reader of lines follow from its exact one
 pub read_some : (e : ℕ) (line : List ℕ) (r : Option Command) → r ≡ command_of e line → IfSome r (λ c. Spells e line c)
 read_some e line None told = tt
 read_some e line (Some c) told = line_spelled e line c (sym told)
@@ -82,6 +82,10 @@ read_some e line (Some c) told = line_spelled e line c (sym told)
 pub read_none : (e : ℕ) (line : List ℕ) (r : Option Command) → r ≡ command_of e line → IfNone r ((c : Command) → Spells e line c → ⊥)
 read_none e line (Some c) told = tt
 read_none e line None told = λ c spells. let found : command_of e line ≡ Some c = line_found e line c spells in cc
+
+-- and no line spells two commands
+pub read_only : (e : ℕ) (line : List ℕ) (r : Option Command) → r ≡ command_of e line → (c : Command) → Spells e line c → r ≡ Some c
+read_only e line r told c spells = told ∙ line_found e line c spells
 
 none_of_many : (e : ℕ) (ps : List (List ℕ)) → 8 < length ps → spelled_command e ps ≡ None
 none_of_many e [] many = refl

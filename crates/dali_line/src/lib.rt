@@ -7,25 +7,19 @@
 
 mod block;
 mod command;
-mod cut;
 mod fields;
 mod line;
 mod line_end;
-#[cfg(test)]
-mod line_tests;
 mod lines;
 mod open_line;
 mod pieces;
 mod reading;
 mod scan;
 mod split;
-#[cfg(test)]
-mod tests;
 mod verbs;
 mod writing;
 
 pub use command::{Command, Verb};
-pub use cut::split_command;
 pub use line::Line;
 pub use line_end::LineEnd;
 pub use lines::Lines;

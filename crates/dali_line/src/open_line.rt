@@ -5,7 +5,6 @@ ghost use Rattle.dali_line.specs.Line.{is_line};
 ghost use Rattle.dali_line.specs.Lines.{MOST_OF_COMMAND};
 ghost use Rattle.dali_line.specs.Open.{InOneLine, StandsFor, IsTooLong, nothing_open, is_comment as begins_comment};
 
-use crate::cut::without_return;
 use dali_base::OutOfMemory;
 use std::alloc::Global;
 use std::marker::Model;
@@ -107,6 +106,16 @@ fn starts_comment(kept: &[u8], part: &[u8]) -> bool
     ensures { result ≡ ((length kept.now == 0) && begins_comment part.now) }
 {
     kept.is_empty() && is_comment(part)
+}
+
+/// The bytes of a line that an LF ended, less one CR before it.
+fn without_return(line: &[u8]) -> &[u8]
+    ensures { result.now ≡ strip_carriage_return line.now }
+{
+    match line {
+        [rest @ .., b'\r'] => rest,
+        _ => line,
+    }
 }
 
 fn is_comment(part: &[u8]) -> bool

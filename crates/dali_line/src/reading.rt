@@ -14,6 +14,7 @@ pub fn read_line(edition: u8, line: &[u8]) -> Option<Command>
     ensures exact { result ≡ command_of edition line.now }
     ensures some { IfSome result (λ c. Spells edition line.now c) }
     ensures none { IfNone result ((c : Command) → Spells edition line.now c → ⊥) }
+    ensures only { (c : Command) → Spells edition line.now c → result ≡ Some c }
 {
     match Pieces::of(line) {
         Some(pieces) => read_pieces(edition, pieces.as_slice()),

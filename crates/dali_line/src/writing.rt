@@ -1,4 +1,4 @@
-ghost use Rattle.std.specs.Prelude.{◌≡◌, ◌<◌, ◌++◌, ◌∷◌, [], IsTrue, OnOk, IfOk, decimal};
+ghost use Rattle.std.specs.Prelude.{◌≡◌, ◌<◌, ◌++◌, ◌∷◌, [], IsTrue, OnOk, IfOk, decimal, length};
 ghost use Rattle.dali_base.specs.Spelling.{DAY, moment_digits};
 ghost use Rattle.dali_line.specs.Line.{is_line};
 ghost use Rattle.dali_line.specs.Grammar.{IsName, HasFields, kind_text, word_of, fields_of, pieces_of, spelling};
@@ -70,6 +70,26 @@ fn add_fields(text: &mut Text, verb: &Verb) -> Result<(), OutOfMemory>
         | Verb::Ledger { account: name }
         | Verb::Cancel { id: name }
         | Verb::Settle { id: name } => add_name(text, name),
+        Verb::Cycle { budget } => add_number(text, *budget),
+        Verb::Inst { code, price } => add_numbered(text, code, *price),
+        Verb::Rank { id, rank } => add_numbered(text, id, u64::from(*rank)),
+        Verb::Link { first, second } => add_names(text, first, second),
+        Verb::Cutoff { kind, moment } => add_cutoff(text, *kind, moment),
+        Verb::Issue { .. } | Verb::Draw { .. } | Verb::Earmark { .. } | Verb::Release { .. } => {
+            add_three(text, verb)
+        }
+        Verb::Dvp { .. } | Verb::Fop { .. } | Verb::Pay { .. } => add_more(text, verb),
+    }
+}
+
+/// Adds the fields of a verb that has three: an account, an asset and a quantity.
+fn add_three(text: &mut Text, verb: &Verb) -> Result<(), OutOfMemory>
+    requires numbers { HasNumbers verb.now }
+    requires three { length (fields_of verb.now) ≡ 3 }
+    ensures added { OnOk result (text.new ≡ text.old ++ after_commas (fields_of verb.now)) }
+    ensures fields { OnOk result (HasFields verb.now) }
+{
+    match verb {
         Verb::Issue {
             account,
             asset,
@@ -90,6 +110,18 @@ fn add_fields(text: &mut Text, verb: &Verb) -> Result<(), OutOfMemory>
             asset,
             quantity,
         } => add_holding(text, account, asset, *quantity),
+        _ => unreachable!(),
+    }
+}
+
+/// Adds the fields of a verb that has more than three: it enters an instruction.
+fn add_more(text: &mut Text, verb: &Verb) -> Result<(), OutOfMemory>
+    requires numbers { HasNumbers verb.now }
+    requires more { 3 < length (fields_of verb.now) }
+    ensures added { OnOk result (text.new ≡ text.old ++ after_commas (fields_of verb.now)) }
+    ensures fields { OnOk result (HasFields verb.now) }
+{
+    match verb {
         Verb::Dvp {
             id,
             seller,
@@ -99,8 +131,7 @@ fn add_fields(text: &mut Text, verb: &Verb) -> Result<(), OutOfMemory>
             cash,
         } => {
             add_parties(text, id, seller, buyer)?;
-            add_name(text, code)?;
-            add_number(text, *quantity)?;
+            add_numbered(text, code, *quantity)?;
             add_number(text, *cash)
         }
         Verb::Fop {
@@ -111,18 +142,13 @@ fn add_fields(text: &mut Text, verb: &Verb) -> Result<(), OutOfMemory>
             quantity,
         } => {
             add_parties(text, id, from, to)?;
-            add_name(text, code)?;
-            add_number(text, *quantity)
+            add_numbered(text, code, *quantity)
         }
         Verb::Pay { id, from, to, cash } => {
             add_parties(text, id, from, to)?;
             add_number(text, *cash)
         }
-        Verb::Inst { code, price } => add_numbered(text, code, *price),
-        Verb::Rank { id, rank } => add_numbered(text, id, u64::from(*rank)),
-        Verb::Link { first, second } => add_names(text, first, second),
-        Verb::Cycle { budget } => add_number(text, *budget),
-        Verb::Cutoff { kind, moment } => add_cutoff(text, *kind, moment),
+        _ => unreachable!(),
     }
 }
 

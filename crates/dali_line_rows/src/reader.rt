@@ -1,7 +1,7 @@
 ghost use Rattle.std.specs.Prelude.{◌≤◌};
 
-use crate::{LineEnd, Lines};
-use dali_base::{OutOfMemory, Seq, Text};
+use dali_base::{OutOfMemory, Text};
+use dali_line::{LineEnd, Lines};
 use dali_outside::{Fault, Faults, MemSource};
 use std::alloc::Global;
 use std::test::Fail;

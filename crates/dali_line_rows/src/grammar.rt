@@ -1,5 +1,5 @@
-use crate::{Command, Line, Verb, read_line, write_line};
 use dali_base::{Kind, read_moment, read_name};
+use dali_line::{Command, Line, Verb, read_line, write_line};
 use std::test::Fail;
 
 #[test]
