@@ -1,5 +1,5 @@
 use Rattle.std.proofs.Common.{◌≡◌, ◌≢◌, ◌∙◌, inl, inr, ℕ, ◌+◌, ◌-◌, ◌≤◌, ◌<◌, ◌^◌, List, [], ◌∷◌, ◌++◌, length, take, drop, slice_index, slice_range, refl, sym, ap, subst, arith, append_assoc, append-nil}
-use Rattle.std.specs.Int.{w32, to_be_bytes}
+use Rattle.std.specs.Int.{w32, from_be_bytes, to_be_bytes}
 use Rattle.std.proofs.lemmas.List.{take_at, drop_at, length-append, drop_more}
 use Rattle.std.proofs.lemmas.List.Folds.{drop_split}
 use Rattle.std.proofs.Math.Seq.{drop-append-add}
@@ -127,6 +127,16 @@ part_rest bytes tail fits =
     let five : tail + 5 - tail ≡ 5 = omega arith in
     let four : 4 ≡ tail + 5 - (tail + 1) = omega arith in
     ap (λ k. drop 1 (take k (drop tail bytes))) five ∙ ap (λ bs. drop 1 (take 5 bs)) gate ∙ ap (λ k. take k (drop (tail + 1) bytes)) four
+
+-- five bytes at an open gate whose length doesn't fit
+pub too_long : (size tail left : ℕ) (bytes head : List ℕ) → tail + left ≡ size → tail + 5 ≤ length bytes → head ≡ slice_range bytes tail (tail + 5) →
+    slice_index head 0 ≢ 0 → left < from_be_bytes w32 (drop 1 head) + 6 → IsTooLong size tail bytes
+too_long size tail left bytes head at fits is set long =
+    let value : from_be_bytes w32 (drop 1 head) ≡ from_be_bytes w32 (slice_range bytes (tail + 1) (tail + 5)) =
+    ap (λ bs. from_be_bytes w32 (drop 1 bs)) is ∙ ap (λ bs. from_be_bytes w32 bs) (part_rest bytes tail fits) in (
+      (λ shut. set (ap (λ bs. slice_index bs 0) is ∙ part_gate bytes tail fits ∙ shut)),
+      inr (omega (arith, at, long, value)),
+    )
 
 -- a length that fits isn't too long
 pub not_too_long : (size tail left len : ℕ) (bytes : List ℕ) → tail + left ≡ size → len + 6 ≤ left → HeadsPayload len tail bytes → IsTooLong size tail bytes → ⊥

@@ -1,6 +1,6 @@
 use Rattle.std.proofs.Common.{◌≡◌, ◌∙◌, ℕ, zero, suc, ◌+◌, ◌-◌, ◌≤◌, Bool, true, false, List, [], ◌∷◌, ◌++◌, length, take, drop, replicate, slice_range, refl, sym, ap, subst, arith, append-nil}
 use Rattle.std.proofs.lemmas.List.{take-append-drop, length-replicate, length-take-le, length-drop}
-use Rattle.dali_outside.specs.Outside.{Sight, overlay, now, Writes, SameText, Goes, TellsAll}
+use Rattle.dali_outside.specs.Outside.{Sight, overlay, now, Writes, SameText, TellsAll}
 use Rattle.dali_outside.specs.Stops.{IsImage, Keeps, LeavesOnly}
 use Rattle.dali_outside.proofs.Images.{only_image, image_length, image_front, image_back}
 use Rattle.dali_outside.proofs.Moments.{leaves_start, leaves_same}
@@ -88,11 +88,3 @@ wrote_torn worked old new at piece fits firm all writes same =
       whole = whole;
       silent = left.printed ∙ nothing_more new.printed left.n ∙ same.printed;
     })
-
--- it still has a byte and a mark for each place
-pub wrote_all : (worked : Bool) (old new : Sight) (at : ℕ) (piece : List ℕ) → at + length piece ≤ old.size → TellsAll old → Writes worked at piece old new → Goes old new → TellsAll new
-wrote_all worked old new at piece fits all writes goes =
-    let bytes : length new.bytes ≡ length old.bytes = ap length writes.bytes ∙ overlay_length old.bytes at writes.stands (omega (arith, fits, all.bytes, writes.as_long)) in
-    let marks : length (replicate (length piece) true) ≡ length piece = length-replicate (length piece) true in
-    let loose : length new.loose ≡ length old.loose = ap length writes.loose ∙ overlay_length old.loose at (replicate (length piece) true) (omega (arith, fits, all.loose, marks)) in
-    record { bytes = omega (arith, bytes, all.bytes, goes.same_size); loose = omega (arith, loose, all.loose, goes.same_size) }

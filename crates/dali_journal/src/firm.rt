@@ -21,6 +21,7 @@ pub(crate) fn write_firm<T: Site>(site: &mut T, at: u64, piece: &[u8]) -> Result
 {
     let _size = site.size();
     site.write(at, piece)?;
+    let _size = site.size();
     site.sync()?;
     Ok(())
 }

@@ -1,22 +1,44 @@
-use Rattle.std.proofs.Common.{◌≡◌, ℕ, zero, suc, Bool, true, false, List, [], ◌∷◌, length, take, drop, replicate, refl, arith}
+use Rattle.std.proofs.Common.{◌≡◌, ℕ, zero, suc, ◌<◌, Bool, true, false, List, [], ◌∷◌, All, length, take, drop, replicate, refl, sym, subst, arith, append-nil}
+use Rattle.std.proofs.lemmas.List.Elements.{All-nil, All-cons, All-head, All-tail}
+use Rattle.dali_outside.specs.Outside.{Sight, now, TellsAll}
 use Rattle.dali_outside.specs.Memory.{filled}
-use Rattle.dali_outside.specs.Stops.{IsImage}
+use Rattle.dali_outside.specs.Stops.{IsImage, MayLeave}
 
 -- with each loose byte made this one it is an image
-pub filled_image : (fill : ℕ) (bytes : List ℕ) (loose : List Bool) → length loose ≡ length bytes → IsImage bytes loose (filled fill bytes loose)
-filled_image fill [] [] same = tt
-filled_image fill [] (l ∷ loose) same = absurd (omega (arith, same))
-filled_image fill (b ∷ bytes) [] same = absurd (omega (arith, same))
-filled_image fill (b ∷ bytes) (true ∷ loose) same = filled_image fill bytes loose (omega (arith, same))
-filled_image fill (b ∷ bytes) (false ∷ loose) same = (refl, filled_image fill bytes loose (omega (arith, same)))
+pub filled_image : (fill : ℕ) (bytes : List ℕ) (loose : List Bool) → fill < 256 → length loose ≡ length bytes → IsImage bytes loose (filled fill bytes loose)
+filled_image fill [] [] small same = tt
+filled_image fill [] (l ∷ loose) small same = absurd (omega (arith, same))
+filled_image fill (b ∷ bytes) [] small same = absurd (omega (arith, same))
+filled_image fill (b ∷ bytes) (true ∷ loose) small same = (small, filled_image fill bytes loose small (omega (arith, same)))
+filled_image fill (b ∷ bytes) (false ∷ loose) small same = (refl, filled_image fill bytes loose small (omega (arith, same)))
 
 -- what reads give is an image
-pub own_image : (bytes : List ℕ) (loose : List Bool) → length loose ≡ length bytes → IsImage bytes loose bytes
-own_image [] [] same = tt
-own_image [] (l ∷ loose) same = absurd (omega (arith, same))
-own_image (b ∷ bytes) [] same = absurd (omega (arith, same))
-own_image (b ∷ bytes) (true ∷ loose) same = own_image bytes loose (omega (arith, same))
-own_image (b ∷ bytes) (false ∷ loose) same = (refl, own_image bytes loose (omega (arith, same)))
+pub own_image : (bytes : List ℕ) (loose : List Bool) → All (λ b. b < 256) bytes → length loose ≡ length bytes → IsImage bytes loose bytes
+own_image [] [] small same = tt
+own_image [] (l ∷ loose) small same = absurd (omega (arith, same))
+own_image (b ∷ bytes) [] small same = absurd (omega (arith, same))
+own_image (b ∷ bytes) (true ∷ loose) small same = (All-head (λ b. b < 256) b bytes small, own_image bytes loose (All-tail (λ b. b < 256) b bytes small) (omega (arith, same)))
+own_image (b ∷ bytes) (false ∷ loose) small same = (refl, own_image bytes loose (All-tail (λ b. b < 256) b bytes small) (omega (arith, same)))
+
+-- what reads give is what a stop now may leave
+pub own_left : (s : Sight) → TellsAll s → MayLeave (now s) s.bytes s.printed
+own_left s all = record {
+  disk = own_image s.bytes s.loose all.small (omega (arith, all.bytes, all.loose));
+  n = 0;
+  printed = sym (append-nil s.printed);
+}
+
+-- an image is a list of bytes
+pub image_small : (bytes : List ℕ) (loose : List Bool) (image : List ℕ) → All (λ b. b < 256) bytes → IsImage bytes loose image → All (λ b. b < 256) image
+image_small [] [] [] small left = All-nil (λ b. b < 256)
+image_small [] [] (c ∷ image) small left = absurd left
+image_small [] (l ∷ loose) image small left = absurd left
+image_small (b ∷ bytes) [] image small left = absurd left
+image_small (b ∷ bytes) (true ∷ loose) [] small left = absurd left
+image_small (b ∷ bytes) (false ∷ loose) [] small left = absurd left
+image_small (b ∷ bytes) (true ∷ loose) (c ∷ image) small left = All-cons (λ b. b < 256) c image left.0 (image_small bytes loose image (All-tail (λ b. b < 256) b bytes small) left.1)
+image_small (b ∷ bytes) (false ∷ loose) (c ∷ image) small left =
+    All-cons (λ b. b < 256) c image (subst (λ (x : ℕ). x < 256) (sym left.0) (All-head (λ b. b < 256) b bytes small)) (image_small bytes loose image (All-tail (λ b. b < 256) b bytes small) left.1)
 
 -- where nothing is loose, there is no other image
 pub only_image : (bytes : List ℕ) (n : ℕ) (image : List ℕ) → n ≡ length bytes → IsImage bytes (replicate n false) image → image ≡ bytes
@@ -35,7 +57,7 @@ image_length [] (l ∷ loose) image left = absurd left
 image_length (b ∷ bytes) [] image left = absurd left
 image_length (b ∷ bytes) (true ∷ loose) [] left = absurd left
 image_length (b ∷ bytes) (false ∷ loose) [] left = absurd left
-image_length (b ∷ bytes) (true ∷ loose) (c ∷ image) left = omega (arith, image_length bytes loose image left)
+image_length (b ∷ bytes) (true ∷ loose) (c ∷ image) left = omega (arith, image_length bytes loose image left.1)
 image_length (b ∷ bytes) (false ∷ loose) (c ∷ image) left = omega (arith, image_length bytes loose image left.1)
 
 -- the front of an image is an image of the front, and so is what is behind it
@@ -47,7 +69,7 @@ image_front (suc n) [] (l ∷ loose) image left = absurd left
 image_front (suc n) (b ∷ bytes) [] image left = absurd left
 image_front (suc n) (b ∷ bytes) (true ∷ loose) [] left = absurd left
 image_front (suc n) (b ∷ bytes) (false ∷ loose) [] left = absurd left
-image_front (suc n) (b ∷ bytes) (true ∷ loose) (c ∷ image) left = image_front n bytes loose image left
+image_front (suc n) (b ∷ bytes) (true ∷ loose) (c ∷ image) left = (left.0, image_front n bytes loose image left.1)
 image_front (suc n) (b ∷ bytes) (false ∷ loose) (c ∷ image) left = (left.0, image_front n bytes loose image left.1)
 
 pub image_back : (n : ℕ) (bytes : List ℕ) (loose : List Bool) (image : List ℕ) → IsImage bytes loose image → IsImage (drop n bytes) (drop n loose) (drop n image)
@@ -58,5 +80,5 @@ image_back (suc n) [] (l ∷ loose) image left = absurd left
 image_back (suc n) (b ∷ bytes) [] image left = absurd left
 image_back (suc n) (b ∷ bytes) (true ∷ loose) [] left = absurd left
 image_back (suc n) (b ∷ bytes) (false ∷ loose) [] left = absurd left
-image_back (suc n) (b ∷ bytes) (true ∷ loose) (c ∷ image) left = image_back n bytes loose image left
+image_back (suc n) (b ∷ bytes) (true ∷ loose) (c ∷ image) left = image_back n bytes loose image left.1
 image_back (suc n) (b ∷ bytes) (false ∷ loose) (c ∷ image) left = image_back n bytes loose image left.1

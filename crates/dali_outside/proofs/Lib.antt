@@ -1,3 +1,4 @@
+pub mod Bytes
 pub mod Undo
 pub mod Images
 pub mod Moments

@@ -2,7 +2,7 @@ use Rattle.std.proofs.Common.{◌≡◌, ◌∙◌, ◌⊎◌, inl, inr, ℕ, �
 use Rattle.std.proofs.lemmas.List.{take-append-drop, take_all, drop_at, length-take, drop-append-le, take-append-le}
 use Rattle.dali_outside.specs.Outside.{Moment, Sight, now, printing, after_print, Syncs, SameDisk, SameText, TellsAll}
 use Rattle.dali_outside.specs.Stops.{IsImage, LeftAtOne, Keeps, LeavesOnly}
-use Rattle.dali_outside.proofs.Images.{own_image, only_image}
+use Rattle.dali_outside.proofs.Images.{own_left, only_image}
 
 -- whatever a stop at one of these moments leaves has P
 abbrev pub KeepsEach : (List ℕ → List ℕ → Type 0) → List Moment → Type 0
@@ -82,7 +82,7 @@ module _ (P : List ℕ → List ℕ → Type 0) (old mid : Sight) (so_far : Leav
       let firm : Keeps P (now new) = (λ image text left.
       let same : image ≡ mid.bytes = only_image mid.bytes (length mid.loose) image (omega (arith, all.bytes, all.loose)) (subst (λ bs. IsImage bs (replicate (length mid.loose) false) image) syncs.bytes (subst (λ ls. IsImage new.bytes ls image) syncs.loose left.disk)) in
       keeps_now image text (record {
-        disk = subst (λ bs. IsImage mid.bytes mid.loose bs) (sym same) (own_image mid.bytes mid.loose (omega (arith, all.bytes, all.loose)));
+        disk = subst (λ bs. IsImage mid.bytes mid.loose bs) (sym same) (own_left mid all).disk;
         n = left.n;
         printed = left.printed ∙ ap (λ xs. xs ++ take left.n []) syncs.printed;
       })) in

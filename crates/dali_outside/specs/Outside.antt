@@ -1,4 +1,4 @@
-use Rattle.std.specs.Prelude.{◌≡◌, ℕ, ◌+◌, ◌-◌, ◌≤◌, ◌<◌, ◌^◌, min, Bool, true, false, List, [], ◌∷◌, ◌++◌, length, take, drop, replicate}
+use Rattle.std.specs.Prelude.{◌≡◌, ℕ, ◌+◌, ◌-◌, ◌≤◌, ◌<◌, ◌^◌, min, Bool, true, false, List, [], ◌∷◌, ◌++◌, All, length, take, drop, replicate}
 
 -- what a source is: the bytes left, and its count of faults
 pub record Feed : Type 0 where
@@ -93,3 +93,4 @@ pub record Goes (old new : Sight) : Type 0 where
 pub record TellsAll (s : Sight) : Type 0 where
   pub bytes : length s.bytes ≡ s.size
   pub loose : length s.loose ≡ s.size
+  pub small : All (λ b. b < 256) s.bytes

@@ -1,10 +1,10 @@
-use Rattle.std.specs.Prelude.{◌≡◌, ◌⊎◌, ℕ, Bool, true, false, List, [], ◌∷◌, ◌++◌, length, take, drop}
+use Rattle.std.specs.Prelude.{◌≡◌, ◌⊎◌, ℕ, ◌<◌, Bool, true, false, List, [], ◌∷◌, ◌++◌, length, take, drop}
 use Rattle.dali_outside.specs.Outside.{Moment, Sight, now}
 
--- what a stop leaves on a disk: as many bytes as it has, the same ones where nothing is loose
+-- what a stop leaves on a disk: as many bytes as it has, the same ones where nothing is loose, and any where it is
 abbrev pub IsImage : List ℕ → List Bool → List ℕ → Type 0
 IsImage [] [] [] = Unit {0}
-IsImage (b ∷ bytes) (true ∷ loose) (c ∷ image) = IsImage bytes loose image
+IsImage (b ∷ bytes) (true ∷ loose) (c ∷ image) = (c < 256) × IsImage bytes loose image
 IsImage (b ∷ bytes) (false ∷ loose) (c ∷ image) = (c ≡ b) × IsImage bytes loose image
 IsImage _ _ _ = ⊥
 

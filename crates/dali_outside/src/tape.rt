@@ -1,4 +1,4 @@
-ghost use Rattle.std.specs.Prelude.{◌≡◌, ◌+◌, ◌-◌, ◌≤◌, ◌<◌, ◌++◌, [], ◌∷◌, true, false, nat_lt, length, take, drop, replicate, IfOk};
+ghost use Rattle.std.specs.Prelude.{◌≡◌, ◌+◌, ◌-◌, ◌≤◌, ◌<◌, ◌++◌, [], ◌∷◌, true, false, nat_lt, All, length, take, drop, replicate, IfOk};
 ghost use Rattle.std.specs.Prelude.{vec_len, vec_capacity};
 ghost use Rattle.dali_outside.specs.Outside.{overlay};
 ghost use Rattle.dali_outside.specs.Memory.{torn};
@@ -91,8 +91,11 @@ impl Tape {
     pub(crate) fn bytes(&self) -> &[u8]
         ensures value { result.now ≡ self.now.bytes }
         ensures as_long { length self.now.loose ≡ length self.now.bytes }
+        ensures small { All (λ b. b < 256) self.now.bytes }
     {
-        self.bytes.as_slice()
+        // Under a name a slice is known to hold bytes.
+        let bytes = self.bytes.as_slice();
+        bytes
     }
 
     /// A mark per byte: whether it is loose.

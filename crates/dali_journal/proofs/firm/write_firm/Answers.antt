@@ -1,5 +1,5 @@
 use Rattle.std.proofs.Common.{length, arith}
-use Rattle.dali_journal.proofs.TornLemmas.{wrote_torn, wrote_all}
+use Rattle.dali_journal.proofs.TornLemmas.{wrote_torn}
 use Rattle.dali_outside.proofs.Moments.{leaves_still, leaves_sync}
 use Rattle.dali_journal.specs.Appends.{Torn}
 use Rattle.dali_journal.proofs.firm.write_firm.Goals as goal
@@ -27,4 +27,4 @@ returns-clause-torn g c = λ tells firm.
     leaves_sync (Torn old c.args.at (length c.args.piece.now)) old mid
     (wrote_torn _ old mid c.args.at c.args.piece.now (omega (arith, c.requires, all.bytes)) firm all (c.write.ensures.disk tells) (c.write.ensures.text tells))
     (g.T.Site.sight c.sync.new.self) (c.in_ok-sync.ensures.firm tells)
-    (wrote_all _ old mid c.args.at c.args.piece.now c.requires all (c.write.ensures.disk tells) c.write.ensures.goes)
+    (c.size-size-2.ensures.told tells)

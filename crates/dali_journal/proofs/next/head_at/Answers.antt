@@ -1,6 +1,6 @@
 use Rattle.std.proofs.Common.{◌∙◌, ◌+◌, ◌≤◌, length, drop, slice_index, sym, ap, arith}
 use Rattle.std.specs.Int.{w32, from_be_bytes}
-use Rattle.dali_journal.proofs.RecordLemmas.{part_gate, part_rest}
+use Rattle.dali_journal.proofs.RecordLemmas.{part_gate, part_rest, too_long}
 use Rattle.dali_journal.proofs.next.head_at.Goals as goal
 
 pub returns-clause-payload : goal.returns-clause-payload
@@ -15,3 +15,10 @@ returns-clause-payload g c = λ tells len is.
       length_is = sym rest ∙ heads.1;
       value = ap (λ bs. from_be_bytes w32 bs) (sym rest) ∙ heads.2;
     }
+
+pub returns-clause-too_long : goal.returns-clause-too_long
+returns-clause-too_long g c = λ tells is.
+    let bytes = (g.T.Site.sight c.args.site.now).bytes in
+    let fits : c.args.tail + 5 ≤ length bytes = omega (arith, c.requires.at_site, (c.size-size.ensures.told tells).bytes, c.if-left-lt6.false) in
+    let heads = c.head_of.ensures.too_long is in
+    too_long _ c.args.tail c.args.left bytes _ c.requires.at_site fits (c.in_ok-read-2.ensures.given tells) heads.0 heads.1
