@@ -59,31 +59,27 @@ pub record Board : Type 0 where
   pub made : ℕ
   pub last : ℕ
 
--- whether the next call is past the room for calls
-abbrev pub past_calls : Board → Bool
-past_calls board = nat_lt board.call_room (one_more board.made)
+-- whether the next call is beyond the room for calls
+abbrev pub beyond_calls : Board → Bool
+beyond_calls board = nat_lt board.call_room (one_more board.made)
 
--- whether a put of this length is past a room
-abbrev pub past_text : Board → ℕ → Bool
-past_text board len = past_calls board || nat_lt board.text_room (length board.sight.printed + len)
+-- whether a put of this length is beyond a room
+abbrev pub beyond_text : Board → ℕ → Bool
+beyond_text board len = beyond_calls board || nat_lt board.text_room (length board.sight.printed + len)
 
--- whether a write of this length is past a room
-abbrev pub past_written : Board → ℕ → Bool
-past_written board len = past_calls board || nat_lt board.written_room (board.written + len)
+-- whether a write of this length is beyond a room
+abbrev pub beyond_written : Board → ℕ → Bool
+beyond_written board len = beyond_calls board || nat_lt board.written_room (board.written + len)
 
--- how many bytes of a piece of this length the next call lets through though it fails; none: it works, if it isn't past
--- a room
+-- how many bytes of a piece of this length the next call lets through though it fails; none: it works, if it isn't
+-- beyond a room
 abbrev pub fault_of : Board → ℕ → Option ℕ
 fault_of board len =
     if nat_lt board.last (one_more board.made)
     then Some 0
     else option_map (λ fault. min fault.went len) (listed board.fails (one_more board.made))
 
--- whether the next call fails, where this says whether it is past a room
-abbrev pub fails_next : Board → Bool → Bool
-fails_next board past = past || is_some (fault_of board 0)
-
--- a piece of which the first n bytes went through
+-- what stands where the first n bytes of a piece went through: these, and EE in the place of each other one
 abbrev pub torn : List ℕ → ℕ → List ℕ
 torn piece n = take n piece ++ replicate (length piece - n) 238
 
@@ -117,7 +113,7 @@ sight_read s fails = record {
   syncs = s.syncs;
 }
 
--- the sight after a write past a room: its range is loose
+-- the sight after a write beyond a room: its range is loose
 abbrev pub sight_loosened : Sight → ℕ → ℕ → Sight
 sight_loosened s at len = record {
   size = s.size;

@@ -7,7 +7,9 @@ use dali_base::Seq;
 #[derive(Clone, Copy, Debug, PartialEq, Eq)]
 pub struct Failed;
 
-/// A call that is to fail: its number, counted from 1, and how many bytes of its piece go through all the same.
+/// A call that is to fail: its number, counted from 1, and how many bytes of its piece go through all the same. Of a
+/// write these bytes stand afterwards, and EE in each other byte of its range; of a put they are printed. A `went`
+/// greater than the piece counts as the piece's length; no other call has a piece.
 #[derive(Clone, Copy, Debug, PartialEq, Eq)]
 pub struct Fault {
     pub call: u64,

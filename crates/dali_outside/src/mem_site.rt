@@ -3,7 +3,7 @@ ghost use Rattle.std.specs.Option.{is_some};
 ghost use Rattle.dali_outside.specs.Outside.{Rose, Writes, Syncs, Prints, SameDisk, SameText, Goes, TellsAll, now};
 ghost use Rattle.dali_outside.specs.Stops.{IsImage, MayLeave};
 ghost use Rattle.dali_outside.specs.Tape.{reel_printed, reel_loosened, reel_written, Says, Lays};
-ghost use Rattle.dali_outside.specs.Memory.{fault_of, past_calls, past_text, past_written, board_at, new_board, torn, filled, sight_read, sight_loosened, sight_written, sight_synced, sight_unsynced, sight_printed};
+ghost use Rattle.dali_outside.specs.Memory.{fault_of, beyond_calls, beyond_text, beyond_written, board_at, new_board, torn, filled, sight_read, sight_loosened, sight_written, sight_synced, sight_unsynced, sight_printed};
 
 use crate::fault::{Failed, Faults, fault_at};
 use crate::site::Site;
@@ -13,7 +13,11 @@ use std::alloc::{AllocError, Global};
 use std::marker::Model;
 
 /// A site in memory, whose memory is taken when it is made and none later. It fails at the calls that it was told to
-/// fail at, past its rooms, and after its fuse.
+/// fail at, beyond its rooms, and after its fuse, and nowhere else.
+///
+/// A call that is beyond a room, judged by its whole piece, fails as such, also where it is listed or comes after the
+/// fuse: it writes and prints nothing, and a write's range is loose afterwards. Any other call after the fuse fails with
+/// nothing of its piece gone through, also where it is listed. Of several entries for one call the first counts.
 #[derive(Debug, Drop)]
 pub struct MemSite {
     tape: Tape,
@@ -59,7 +63,8 @@ impl Model for MemSite {
 
 impl MemSite {
     /// A site of `size` bytes, all of them 0, on which nothing is loose and nothing is printed. It has room for `text`
-    /// printed bytes, for `calls` calls, and for `written` bytes that writes replace. The listed calls fail.
+    /// printed bytes, for `calls` calls, and for `written` bytes that writes replace. The listed calls, counted from 1,
+    /// fail.
     pub fn new(
         alloc: Global,
         size: u64,
@@ -135,15 +140,15 @@ impl MemSite {
         self.made
     }
 
-    /// Whether the next call is past the room for calls.
-    fn is_past_calls(&self) -> bool
-        ensures { result ≡ past_calls self.now }
+    /// Whether the next call is beyond the room for calls.
+    fn is_beyond_calls(&self) -> bool
+        ensures { result ≡ beyond_calls self.now }
     {
         u64::from(self.call_room) < self.made.saturating_add(1)
     }
 
     /// How many bytes of a piece of this length the next call lets through though it fails. `None` where it works, if
-    /// it isn't past a room.
+    /// it isn't beyond a room.
     fn fault_of(&self, len: usize) -> Option<usize>
         ensures value { result ≡ fault_of self.now len }
         ensures bound { IfSome result (λ n. n ≤ len) }
@@ -176,11 +181,11 @@ impl Site for MemSite {
         ensures goes { Goes self.old.sight self.new.sight }
         ensures syncs { self.new.sight.syncs ≤ self.old.sight.syncs }
         ensures failed { OnErr result (Rose self.old.sight.disk_faults self.new.sight.disk_faults) }
-        ensures listed { is_ok result ≡ not (past_calls self.old || is_some (fault_of self.old 0)) }
+        ensures listed { is_ok result ≡ not (beyond_calls self.old || is_some (fault_of self.old 0)) }
         ensures after { self.new ≡ board_at self.old (sight_read self.old.sight (not (is_ok result))) self.old.written }
         ensures untouched { OnErr result (into.new ≡ into.old) }
     {
-        let fails = self.is_past_calls() || self.fault_of(0).is_some();
+        let fails = self.is_beyond_calls() || self.fault_of(0).is_some();
         self.made = self.made.saturating_add(1);
         if fails {
             self.disk_faults = self.disk_faults.saturating_add(1);
@@ -198,14 +203,14 @@ impl Site for MemSite {
         ensures goes { Goes self.old.sight self.new.sight }
         ensures syncs { self.new.sight.syncs ≤ self.old.sight.syncs }
         ensures failed { OnErr result (Rose self.old.sight.disk_faults self.new.sight.disk_faults) }
-        ensures listed { is_ok result ≡ not (past_written self.old (length piece.now) || is_some (fault_of self.old (length piece.now))) }
-        ensures past { past_written self.old (length piece.now) ≡ true → self.new ≡ board_at self.old (sight_loosened self.old.sight at (length piece.now)) self.old.written }
+        ensures listed { is_ok result ≡ not (beyond_written self.old (length piece.now) || is_some (fault_of self.old (length piece.now))) }
+        ensures beyond { beyond_written self.old (length piece.now) ≡ true → self.new ≡ board_at self.old (sight_loosened self.old.sight at (length piece.now)) self.old.written }
         ensures whole { OnOk result (self.new ≡ board_at self.old (sight_written self.old.sight false at piece.now) (self.old.written + length piece.now)) }
-        ensures begun { past_written self.old (length piece.now) ≡ false → IfSome (fault_of self.old (length piece.now)) (λ n. self.new ≡ board_at self.old (sight_written self.old.sight true at (torn piece.now n)) (self.old.written + length piece.now)) }
+        ensures begun { beyond_written self.old (length piece.now) ≡ false → IfSome (fault_of self.old (length piece.now)) (λ n. self.new ≡ board_at self.old (sight_written self.old.sight true at (torn piece.now n)) (self.old.written + length piece.now)) }
     {
-        let (past_calls, fault) = (self.is_past_calls(), self.fault_of(piece.len()));
+        let (beyond_calls, fault) = (self.is_beyond_calls(), self.fault_of(piece.len()));
         self.made = self.made.saturating_add(1);
-        if lay(&mut self.tape, past_calls, fault, at as usize, piece) {
+        if lay(&mut self.tape, beyond_calls, fault, at as usize, piece) {
             return Ok(());
         }
         self.disk_faults = self.disk_faults.saturating_add(1);
@@ -219,11 +224,11 @@ impl Site for MemSite {
         ensures goes { Goes self.old.sight self.new.sight }
         ensures syncs { self.new.sight.syncs ≤ self.old.sight.syncs + 1 }
         ensures failed { OnErr result (Rose self.old.sight.disk_faults self.new.sight.disk_faults) }
-        ensures listed { is_ok result ≡ not (past_calls self.old || is_some (fault_of self.old 0)) }
+        ensures listed { is_ok result ≡ not (beyond_calls self.old || is_some (fault_of self.old 0)) }
         ensures whole { OnOk result (self.new ≡ board_at self.old (sight_synced self.old.sight) self.old.written) }
         ensures unsynced { OnErr result (self.new ≡ board_at self.old (sight_unsynced self.old.sight) self.old.written) }
     {
-        let fails = self.is_past_calls() || self.fault_of(0).is_some();
+        let fails = self.is_beyond_calls() || self.fault_of(0).is_some();
         self.made = self.made.saturating_add(1);
         self.syncs = self.syncs.saturating_add(1);
         if fails {
@@ -240,14 +245,14 @@ impl Site for MemSite {
         ensures goes { Goes self.old.sight self.new.sight }
         ensures syncs { self.new.sight.syncs ≤ self.old.sight.syncs }
         ensures failed { OnErr result (Rose self.old.sight.print_faults self.new.sight.print_faults) }
-        ensures listed { is_ok result ≡ not (past_text self.old (length piece.now) || is_some (fault_of self.old (length piece.now))) }
-        ensures past { past_text self.old (length piece.now) ≡ true → self.new ≡ board_at self.old (sight_printed self.old.sight true []) self.old.written }
+        ensures listed { is_ok result ≡ not (beyond_text self.old (length piece.now) || is_some (fault_of self.old (length piece.now))) }
+        ensures beyond { beyond_text self.old (length piece.now) ≡ true → self.new ≡ board_at self.old (sight_printed self.old.sight true []) self.old.written }
         ensures whole { OnOk result (self.new ≡ board_at self.old (sight_printed self.old.sight false piece.now) self.old.written) }
-        ensures begun { past_text self.old (length piece.now) ≡ false → IfSome (fault_of self.old (length piece.now)) (λ n. self.new ≡ board_at self.old (sight_printed self.old.sight true (take n piece.now)) self.old.written) }
+        ensures begun { beyond_text self.old (length piece.now) ≡ false → IfSome (fault_of self.old (length piece.now)) (λ n. self.new ≡ board_at self.old (sight_printed self.old.sight true (take n piece.now)) self.old.written) }
     {
-        let (past_calls, fault) = (self.is_past_calls(), self.fault_of(piece.len()));
+        let (beyond_calls, fault) = (self.is_beyond_calls(), self.fault_of(piece.len()));
         self.made = self.made.saturating_add(1);
-        if say(&mut self.tape, past_calls, fault, piece) {
+        if say(&mut self.tape, beyond_calls, fault, piece) {
             return Ok(());
         }
         self.print_faults = self.print_faults.saturating_add(1);
@@ -256,18 +261,18 @@ impl Site for MemSite {
 }
 
 /// Writes a piece on the tape, and answers whether that works: it does where no room is passed and no fault is told.
-fn lay(tape: &mut Tape, past_calls: bool, fault: Option<usize>, at: usize, piece: &[u8]) -> bool
+fn lay(tape: &mut Tape, beyond_calls: bool, fault: Option<usize>, at: usize, piece: &[u8]) -> bool
     requires within { at + length piece.now ≤ length tape.old.bytes }
     requires fault { IfSome fault (λ n. n ≤ length piece.now) }
-    requires steps { past_calls ≡ false → tape.old.steps < tape.old.step_room }
-    ensures works { result ≡ not (past_calls || nat_lt tape.old.replaced_room (tape.old.replaced + length piece.now) || is_some fault) }
-    ensures past { (past_calls || nat_lt tape.old.replaced_room (tape.old.replaced + length piece.now)) ≡ true → tape.new ≡ reel_loosened tape.old past_calls at (length piece.now) }
+    requires steps { beyond_calls ≡ false → tape.old.steps < tape.old.step_room }
+    ensures works { result ≡ not (beyond_calls || nat_lt tape.old.replaced_room (tape.old.replaced + length piece.now) || is_some fault) }
+    ensures beyond { (beyond_calls || nat_lt tape.old.replaced_room (tape.old.replaced + length piece.now)) ≡ true → tape.new ≡ reel_loosened tape.old beyond_calls at (length piece.now) }
     ensures whole { IsTrue result → tape.new ≡ reel_written tape.old at piece.now }
-    ensures begun { (past_calls || nat_lt tape.old.replaced_room (tape.old.replaced + length piece.now)) ≡ false → IfSome fault (λ n. tape.new ≡ reel_written tape.old at (torn piece.now n)) }
+    ensures begun { (beyond_calls || nat_lt tape.old.replaced_room (tape.old.replaced + length piece.now)) ≡ false → IfSome fault (λ n. tape.new ≡ reel_written tape.old at (torn piece.now n)) }
     ensures laid { Lays result at piece.now tape.old tape.new }
 {
     let len = piece.len();
-    if past_calls {
+    if beyond_calls {
         tape.loosen_unnoted(at, len);
         return false;
     }
@@ -288,17 +293,17 @@ fn lay(tape: &mut Tape, past_calls: bool, fault: Option<usize>, at: usize, piece
 }
 
 /// Prints a piece on the tape, and answers whether that works: it does where no room is passed and no fault is told.
-fn say(tape: &mut Tape, past_calls: bool, fault: Option<usize>, piece: &[u8]) -> bool
+fn say(tape: &mut Tape, beyond_calls: bool, fault: Option<usize>, piece: &[u8]) -> bool
     requires fault { IfSome fault (λ n. n ≤ length piece.now) }
-    requires noted { past_calls ≡ false → tape.old.noted ≡ true }
-    requires steps { past_calls ≡ false → tape.old.steps < tape.old.step_room }
-    ensures works { result ≡ not (past_calls || nat_lt tape.old.text_room (length tape.old.text + length piece.now) || is_some fault) }
-    ensures past { (past_calls || nat_lt tape.old.text_room (length tape.old.text + length piece.now)) ≡ true → tape.new ≡ tape.old }
+    requires noted { beyond_calls ≡ false → tape.old.noted ≡ true }
+    requires steps { beyond_calls ≡ false → tape.old.steps < tape.old.step_room }
+    ensures works { result ≡ not (beyond_calls || nat_lt tape.old.text_room (length tape.old.text + length piece.now) || is_some fault) }
+    ensures beyond { (beyond_calls || nat_lt tape.old.text_room (length tape.old.text + length piece.now)) ≡ true → tape.new ≡ tape.old }
     ensures whole { IsTrue result → tape.new ≡ reel_printed tape.old piece.now }
-    ensures begun { (past_calls || nat_lt tape.old.text_room (length tape.old.text + length piece.now)) ≡ false → IfSome fault (λ n. tape.new ≡ reel_printed tape.old (take n piece.now)) }
+    ensures begun { (beyond_calls || nat_lt tape.old.text_room (length tape.old.text + length piece.now)) ≡ false → IfSome fault (λ n. tape.new ≡ reel_printed tape.old (take n piece.now)) }
     ensures said { Says result piece.now tape.old tape.new }
 {
-    if past_calls || tape.lacks_text_room(piece.len()) {
+    if beyond_calls || tape.lacks_text_room(piece.len()) {
         return false;
     }
     match fault {

@@ -84,7 +84,7 @@ fn leaves_a_prefix_of_a_failed_put(rt: HostRuntime) -> Result<(), Fail> {
 }
 
 #[test]
-fn fails_past_its_rooms(rt: HostRuntime) -> Result<(), Fail> {
+fn fails_beyond_its_rooms(rt: HostRuntime) -> Result<(), Fail> {
     let alloc = rt.alloc();
     let fails = faults(alloc, &[Fault { call: 2, went: 4 }])?;
     let mut site = MemSite::new(alloc, 0, 10, 3, 0, fails)?;
@@ -159,7 +159,7 @@ fn a_failed_write_leaves_what_went(rt: HostRuntime) -> Result<(), Fail> {
 }
 
 #[test]
-fn a_write_past_its_room_loosens(rt: HostRuntime) -> Result<(), Fail> {
+fn a_write_beyond_its_room_loosens(rt: HostRuntime) -> Result<(), Fail> {
     let alloc = rt.alloc();
     let mut site = small(alloc, &[Fault { call: 2, went: 1 }])?;
     writes(&rt, alloc, &mut site, b"PQ", true, b"aPQd", b"axxd")?;

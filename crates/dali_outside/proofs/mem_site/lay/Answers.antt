@@ -3,8 +3,8 @@ use Rattle.std.proofs.lemmas.Grind.{common_steps}
 use Rattle.dali_outside.proofs.Undo.{overlay_same, range_length}
 use Rattle.dali_outside.proofs.mem_site.lay.Goals as goal
 
-pub returns-then-past_calls-clause-laid : goal.returns-then-past_calls-clause-laid
-returns-then-past_calls-clause-laid c =
+pub returns-then-beyond_calls-clause-laid : goal.returns-then-beyond_calls-clause-laid
+returns-then-beyond_calls-clause-laid c =
     let at = c.args.at in
     let len = length c.args.piece.now in
     let old = c.args.tape.now in
