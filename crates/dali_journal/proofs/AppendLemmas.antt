@@ -1,6 +1,6 @@
 use Rattle.std.proofs.Common.{◌≡◌, ◌≢◌, ◌∙◌, ◌⊎◌, inl, inr, ℕ, zero, suc, ◌+◌, ◌-◌, ◌≤◌, ◌<◌, Bool, true, false, List, [], ◌∷◌, ◌++◌, length, take, drop, Result, Ok, Err, OnOk, is_ok, refl, sym, ap, subst, arith, append_assoc}
 use Rattle.std.proofs.lemmas.List.{take-append-drop, length-append, length-drop, take-append-le, drop-append-le}
-use Rattle.dali_outside.specs.Outside.{Moment, Sight, overlay, now}
+use Rattle.dali_outside.specs.Outside.{Moment, Sight, TellsAll, overlay, now}
 use Rattle.dali_outside.specs.Stops.{LeftAtOne, MightHaveLeft, MightHaveLeftAt, Keeps, LeavesOnly}
 use Rattle.dali_outside.specs.Stops.{IsImage}
 use Rattle.dali_outside.proofs.Images.{only_image}
@@ -9,6 +9,7 @@ use Rattle.dali_journal.specs.Holds.{HoldsAt, Holds}
 use Rattle.dali_journal.specs.Frames.{AreFrames, AreShort}
 use Rattle.dali_journal.specs.Appends.{IsFirm, AtRest, Torn, EitherList, Appends}
 use Rattle.dali_journal.proofs.RecordLemmas.{header_length, records_append, opened, overlay_seam}
+use Rattle.dali_journal.proofs.RestLemmas.{each_holds}
 use Rattle.dali_journal.proofs.TornLemmas.{nothing_more}
 
 module _ (tail edition : ℕ) (list : List (List ℕ)) (bytes : List ℕ) (at : HoldsAt tail edition list bytes) where
@@ -141,6 +142,7 @@ module _ (tail edition : ℕ) (list more : List (List ℕ)) (frames : List ℕ) 
     each = first_step n mid torn;
     first = λ image text left. behind_keeps n image text (torn.each image text (one_of (drop (length old.past) (mid.past ++ now mid ∷ [])) image text left));
     done = λ works. absurd (cc works);
+    after = λ works. absurd (cc works);
   }
 
   -- nothing was written
@@ -159,6 +161,7 @@ module _ (tail edition : ℕ) (list more : List (List ℕ)) (frames : List ℕ) 
         each = leaves_weaker (λ image text. Holds edition list image × (text ≡ old.printed)) (EitherList edition list more old.printed) old old (λ image text here. record { one = inl here.0; silent = here.1 }) still;
         first = λ image text left. (still.each image text (one_of (drop (length old.past) (old.past ++ now old ∷ [])) image text left)).0;
         done = λ works. absurd (cc works);
+        after = λ works. absurd (cc works);
       }
 
   module _ (mid new : Sight) (are : AreFrames more frames) (short : AreShort more) (n : ℕ)
@@ -183,15 +186,17 @@ module _ (tail edition : ℕ) (list more : List (List ℕ)) (frames : List ℕ) 
           silent = here.silent ∙ silent;
         }) gate
 
-    pub appends_two : (worked : Bool) → (worked ≡ true → (IsFirm new × (new.bytes ≡ overlay mid.bytes tail (1 ∷ [])))) → Appends worked tail edition list more frames old new
+    stands : (IsFirm new × (new.bytes ≡ overlay mid.bytes tail (1 ∷ [])) × TellsAll new) → AtRest (tail + length frames) edition (list ++ more) new
+    stands end = record {
+      holds = subst (HoldsAt (tail + length frames) edition (list ++ more)) (sym (end.1 ∙ ap (λ bs. overlay bs tail (1 ∷ [])) bytes))
+          (gate_opened tail edition list (overlay old.bytes (tail + 1) frames) mid_at more frames (drop (length frames) rest.holds.free) are short free 1 (λ e. absurd (omega (arith, e))));
+      firm = end.0;
+    }
+
+    pub appends_two : (worked : Bool) → (worked ≡ true → (IsFirm new × (new.bytes ≡ overlay mid.bytes tail (1 ∷ [])) × TellsAll new)) → Appends worked tail edition list more frames old new
     appends_two worked ends = record {
       each = leaves_on (EitherList edition list more old.printed) old mid (first_step n mid torn) new second_step;
       first = λ image text left. behind_keeps n image text (torn.each image text (earlier mid new (length old.past) image text gate.kept over left));
-      done = λ works.
-          let end = ends works in
-          record {
-            holds = subst (HoldsAt (tail + length frames) edition (list ++ more)) (sym (end.1 ∙ ap (λ bs. overlay bs tail (1 ∷ [])) bytes))
-                (gate_opened tail edition list (overlay old.bytes (tail + 1) frames) mid_at more frames (drop (length frames) rest.holds.free) are short free 1 (λ e. absurd (omega (arith, e))));
-            firm = end.0;
-          };
+      done = λ works. stands (ends works);
+      after = λ works. each_holds (tail + length frames) edition (list ++ more) new (ends works).2 (stands (ends works));
     }

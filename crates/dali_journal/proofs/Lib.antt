@@ -1,3 +1,4 @@
+pub mod RestLemmas
 pub mod TornLemmas
 pub mod RecordLemmas
 pub mod AppendLemmas

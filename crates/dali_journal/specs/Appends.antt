@@ -1,6 +1,6 @@
 use Rattle.std.specs.Prelude.{◌≡◌, ◌⊎◌, ℕ, ◌+◌, Bool, true, false, List, ◌++◌, length, replicate}
 use Rattle.dali_outside.specs.Outside.{Sight, overlay}
-use Rattle.dali_outside.specs.Stops.{MightHaveLeftAt, LeavesOnly}
+use Rattle.dali_outside.specs.Stops.{MightHaveLeft, MightHaveLeftAt, LeavesOnly}
 use Rattle.dali_journal.specs.Holds.{Holds, HoldsAt}
 
 -- nothing is loose
@@ -11,6 +11,10 @@ IsFirm s = s.loose ≡ replicate (length s.loose) false
 pub record AtRest (tail edition : ℕ) (list : List (List ℕ)) (s : Sight) : Type 0 where
   pub holds : HoldsAt tail edition list s.bytes
   pub firm : IsFirm s
+
+-- every image that a stop now may leave holds these payloads
+abbrev pub EachHolds : ℕ → List (List ℕ) → Sight → Type 0
+EachHolds edition list s = (image text : List ℕ) → MightHaveLeft s (length s.past) image text → Holds edition list image
 
 -- what a stop within a write of a piece of n bytes leaves, where nothing else is loose: any bytes in its range
 pub record Torn (old : Sight) (at n : ℕ) (image text : List ℕ) : Type 0 where
@@ -26,11 +30,12 @@ pub record EitherList (edition : ℕ) (list more : List (List ℕ)) (printed ima
 
 -- What an append of more payloads does, which puts these frames behind the gate. Each image since its start holds the
 -- list or the longer one; up to the first sync that works, and so before the gate is written, it holds the list; and
--- after Ok the device holds the longer one and nothing is loose.
+-- after Ok the device and every image hold the longer one, and nothing is loose.
 pub record Appends (worked : Bool) (tail edition : ℕ) (list more : List (List ℕ)) (frames : List ℕ) (old new : Sight) : Type 0 where
   pub each : LeavesOnly (EitherList edition list more old.printed) old new
   pub first : (image text : List ℕ) → MightHaveLeftAt new (length old.past) image text → Holds edition list image
   pub done : worked ≡ true → AtRest (tail + length frames) edition (list ++ more) new
+  pub after : worked ≡ true → EachHolds edition (list ++ more) new
 
 -- an image holds the list in a journal of the edition or of the next, and nothing was printed
 pub record EitherEdition (tail edition : ℕ) (list : List (List ℕ)) (printed image text : List ℕ) : Type 0 where

@@ -1,5 +1,5 @@
 ghost use Rattle.std.specs.Prelude.{◌≡◌, ◌+◌, ◌≤◌, ◌<◌, length, is_ok, OnOk, OnErr, IsTrue};
-ghost use Rattle.dali_outside.specs.Outside.{Rose, Goes, overlay};
+ghost use Rattle.dali_outside.specs.Outside.{Rose, Goes, TellsAll, overlay};
 ghost use Rattle.dali_outside.specs.Stops.{LeavesOnly};
 ghost use Rattle.dali_journal.specs.Appends.{IsFirm, Torn};
 
@@ -14,6 +14,7 @@ pub(crate) fn write_firm<T: Site>(site: &mut T, at: u64, piece: &[u8]) -> Result
     ensures firm { IsTrue T.tells → OnOk result (IsFirm (T.sight site.new)) }
     ensures bytes { IsTrue T.tells → OnOk result ((T.sight site.new).bytes ≡ overlay (T.sight site.old).bytes at piece.now) }
     ensures silent { IsTrue T.tells → (T.sight site.new).printed ≡ (T.sight site.old).printed }
+    ensures told { IsTrue T.tells → OnOk result (TellsAll (T.sight site.new)) }
     ensures ended { IsTrue T.tells → OnOk result (length (T.sight site.old).past < length (T.sight site.new).past) }
     ensures goes { Goes (T.sight site.old) (T.sight site.new) }
     ensures syncs { (T.sight site.new).syncs ≤ (T.sight site.old).syncs + 1 }

@@ -2,7 +2,7 @@ ghost use Rattle.std.specs.Prelude.{◌≡◌, ◌+◌, ◌≤◌, ◌<◌, ◌�
 ghost use Rattle.dali_base.specs.declared.TheConstants.{NEWEST};
 ghost use Rattle.dali_outside.specs.Outside.{Rose, Goes, overlay};
 ghost use Rattle.dali_outside.specs.Stops.{LeavesOnly};
-ghost use Rattle.dali_journal.specs.Appends.{AtRest, EitherEdition};
+ghost use Rattle.dali_journal.specs.Appends.{AtRest, EachHolds, EitherEdition};
 
 use crate::firm::write_firm;
 use crate::journal::Journal;
@@ -23,6 +23,8 @@ impl Journal {
             LeavesOnly (EitherEdition tail self.old.edition list (T.sight site.old).printed) (T.sight site.old) (T.sight site.new) }
         ensures raised { IsTrue T.tells → (tail : ℕ) (list : List (List ℕ)) → AtRest tail self.old.edition list (T.sight site.old) →
             OnOk result (AtRest tail (self.old.edition + 1) list (T.sight site.new)) }
+        ensures images { IsTrue T.tells → (tail : ℕ) (list : List (List ℕ)) → AtRest tail self.old.edition list (T.sight site.old) →
+            OnOk result (EachHolds (self.old.edition + 1) list (T.sight site.new)) }
         ensures bytes { IsTrue T.tells → OnOk result ((T.sight site.new).bytes ≡ overlay (T.sight site.old).bytes (11 + self.old.edition) (1 ∷ [])) }
         ensures edition { OnOk result (self.new ≡ record self.old { edition = self.old.edition + 1 }) }
         ensures same { OnErr result (self.new ≡ self.old) }

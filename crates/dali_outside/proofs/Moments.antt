@@ -1,8 +1,16 @@
-use Rattle.std.proofs.Common.{◌≡◌, ◌∙◌, ◌⊎◌, inl, inr, ℕ, ◌≤◌, false, List, [], ◌∷◌, ◌++◌, length, take, drop, replicate, refl, sym, ap, subst, arith, append_assoc, append-nil}
-use Rattle.std.proofs.lemmas.List.{take-append-drop, take_all, drop_at, length-take, drop-append-le, take-append-le}
-use Rattle.dali_outside.specs.Outside.{Moment, Sight, now, printing, after_print, Syncs, SameDisk, SameText, TellsAll}
+use Rattle.std.proofs.Common.{◌≡◌, ◌∙◌, ◌⊎◌, inl, inr, ℕ, ◌≤◌, ◌<◌, false, List, [], ◌∷◌, ◌++◌, All, length, take, drop, replicate, refl, sym, ap, subst, arith, append_assoc, append-nil}
+use Rattle.std.proofs.lemmas.List.{take-append-drop, take_all, drop_at, length-take, length-replicate, drop-append-le, take-append-le}
+use Rattle.dali_outside.specs.Outside.{Moment, Sight, now, printing, after_print, Syncs, SameDisk, SameText, Goes, TellsAll}
 use Rattle.dali_outside.specs.Stops.{IsImage, LeftAtOne, Keeps, LeavesOnly}
 use Rattle.dali_outside.proofs.Images.{own_left, only_image}
+
+-- after a sync that worked there is still a byte and a mark for each place
+pub synced_all : (old new : Sight) → TellsAll old → Syncs old new → Goes old new → TellsAll new
+synced_all old new all syncs goes = record {
+  bytes = omega (arith, ap length syncs.bytes, all.bytes, goes.same_size);
+  loose = omega (arith, ap length syncs.loose, length-replicate (length old.loose) false, all.loose, goes.same_size);
+  small = subst (All (λ b. b < 256)) (sym syncs.bytes) all.small;
+}
 
 -- whatever a stop at one of these moments leaves has P
 abbrev pub KeepsEach : (List ℕ → List ℕ → Type 0) → List Moment → Type 0

@@ -16,4 +16,4 @@ returns-in-Ok-clause-stops g c = λ tells edition list more are short rest.
     appends_two c.args.tail edition list more c.args.frames.now old rest (all.loose ∙ sym all.bytes) mid (g.T.Site.sight c.write_firm-in-Ok.new.site) are short (length c.args.frames.now)
     (c.write_firm.ensures.torn tells rest.firm) (c.in-Ok.ensures.bytes tells) (c.write_firm.ensures.silent tells) (c.in-Ok.ensures.ended tells)
     (c.write_firm-in-Ok.ensures.torn tells (c.in-Ok.ensures.firm tells)) (is_ok c.write_firm-in-Ok.result)
-    (λ works. (on_ok c.write_firm-in-Ok.result _ (c.write_firm-in-Ok.ensures.firm tells) works, on_ok c.write_firm-in-Ok.result _ (c.write_firm-in-Ok.ensures.bytes tells) works))
+    (λ works. (on_ok c.write_firm-in-Ok.result _ (c.write_firm-in-Ok.ensures.firm tells) works, on_ok c.write_firm-in-Ok.result _ (c.write_firm-in-Ok.ensures.bytes tells) works, on_ok c.write_firm-in-Ok.result _ (c.write_firm-in-Ok.ensures.told tells) works))

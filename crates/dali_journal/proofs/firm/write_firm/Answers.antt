@@ -1,6 +1,6 @@
 use Rattle.std.proofs.Common.{length, arith}
 use Rattle.dali_journal.proofs.TornLemmas.{wrote_torn}
-use Rattle.dali_outside.proofs.Moments.{leaves_still, leaves_sync}
+use Rattle.dali_outside.proofs.Moments.{leaves_still, leaves_sync, synced_all}
 use Rattle.dali_journal.specs.Appends.{Torn}
 use Rattle.dali_journal.proofs.firm.write_firm.Goals as goal
 
@@ -18,6 +18,10 @@ returns-in_err-sync-clause-torn g c = λ tells firm.
     leaves_still (Torn old c.args.at (length c.args.piece.now)) old mid
     (wrote_torn _ old mid c.args.at c.args.piece.now (omega (arith, c.requires, all.bytes)) firm all (c.write.ensures.disk tells) (c.write.ensures.text tells))
     (g.T.Site.sight c.sync.new.self) (c.in_err-sync.ensures.disk tells) (c.in_err-sync.ensures.text tells)
+
+pub returns-clause-told : goal.returns-clause-told
+returns-clause-told g c = λ tells.
+    synced_all (g.T.Site.sight c.write.new.self) (g.T.Site.sight c.sync.new.self) (c.size-size-2.ensures.told tells) (c.in_ok-sync.ensures.firm tells) c.sync.ensures.goes
 
 pub returns-clause-torn : goal.returns-clause-torn
 returns-clause-torn g c = λ tells firm.

@@ -1,10 +1,19 @@
-use Rattle.std.proofs.Common.{[], sym, subst}
-use Rattle.dali_journal.specs.Holds.{HoldsAt}
+use Rattle.std.proofs.Common.{◌≡◌, [], ◌∷◌, ◌++◌, sym, subst}
+use Rattle.dali_outside.specs.Outside.{Sight, overlay}
+use Rattle.dali_journal.specs.Appends.{IsFirm, AtRest}
+use Rattle.dali_journal.proofs.RestLemmas.{each_holds}
+use Rattle.dali_journal.specs.Holds.{HoldsAt, head_text}
 use Rattle.dali_journal.proofs.HeaderLemmas.{empty_at}
 use Rattle.dali_journal.proofs.formatting.format.Goals as goal
 
+empty : (old new : Sight) → new.bytes ≡ overlay old.bytes 0 (head_text ++ 0 ∷ 0 ∷ 0 ∷ 1 ∷ 0 ∷ []) → IsFirm new → AtRest 16 1 [] new
+empty old new bytes firm = record { holds = subst (HoldsAt 16 1 []) (sym bytes) (empty_at old.bytes); firm = firm }
+
 pub returns-clause-empty : goal.returns-clause-empty
-returns-clause-empty g c = λ tells. record {
-  holds = subst (HoldsAt 16 1 []) (sym (c.in_ok-write_firm.ensures.bytes tells)) (empty_at (g.T.Site.sight c.args.site.now).bytes);
-  firm = c.in_ok-write_firm.ensures.firm tells;
-}
+returns-clause-empty g c = λ tells.
+    empty (g.T.Site.sight c.args.site.now) (g.T.Site.sight c.write_firm.new.site) (c.in_ok-write_firm.ensures.bytes tells) (c.in_ok-write_firm.ensures.firm tells)
+
+pub returns-clause-images : goal.returns-clause-images
+returns-clause-images g c = λ tells.
+    each_holds 16 1 [] (g.T.Site.sight c.write_firm.new.site) (c.in_ok-write_firm.ensures.told tells)
+    (empty (g.T.Site.sight c.args.site.now) (g.T.Site.sight c.write_firm.new.site) (c.in_ok-write_firm.ensures.bytes tells) (c.in_ok-write_firm.ensures.firm tells))

@@ -3,6 +3,7 @@ use Rattle.dali_outside.specs.Outside.{overlay}
 use Rattle.dali_outside.specs.Stops.{LeavesOnly}
 use Rattle.dali_journal.specs.Appends.{Torn}
 use Rattle.dali_journal.proofs.HeaderLemmas.{raise_stops, raised}
+use Rattle.dali_journal.proofs.RestLemmas.{each_holds}
 use Rattle.dali_journal.proofs.journal.Journal.raise_edition.Goals as goal
 
 pub returns-in_err-write_firm-clause-stops : goal.returns-in_err-write_firm-clause-stops
@@ -25,3 +26,11 @@ returns-clause-raised g c = λ tells tail list rest.
     let new = g.T.Site.sight c.write_firm.new.site in
     raised tail c.args.self.now.edition list old new rest c.requires.below (c.in_ok-write_firm.ensures.firm tells)
     (subst (λ e. new.bytes ≡ overlay old.bytes (11 + e) (1 ∷ [])) (c.from.ensures ∙ ap (λ r. r.edition) c.self.view_is) (c.in_ok-write_firm.ensures.bytes tells))
+
+pub returns-clause-images : goal.returns-clause-images
+returns-clause-images g c = λ tells tail list rest.
+    let old = g.T.Site.sight c.args.site.now in
+    let new = g.T.Site.sight c.write_firm.new.site in
+    each_holds tail (c.args.self.now.edition + 1) list new (c.in_ok-write_firm.ensures.told tells)
+    (raised tail c.args.self.now.edition list old new rest c.requires.below (c.in_ok-write_firm.ensures.firm tells)
+    (subst (λ e. new.bytes ≡ overlay old.bytes (11 + e) (1 ∷ [])) (c.from.ensures ∙ ap (λ r. r.edition) c.self.view_is) (c.in_ok-write_firm.ensures.bytes tells)))
