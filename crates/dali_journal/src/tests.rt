@@ -1,4 +1,4 @@
-ghost use Rattle.std.specs.Prelude.{◌≡◌, ◌≤◌, ◌+◌, true, length, IfOk, OnOk, IfSome};
+ghost use Rattle.std.specs.Prelude.{◌≡◌, ◌⊎◌, ◌≤◌, ◌+◌, true, length, IfOk, OnOk, IfSome};
 
 use crate::{AppendNo, Damage, Group, Journal, OpenNo, format, frame, open_journal};
 use dali_base::{OutOfMemory, Text};
@@ -171,11 +171,25 @@ fn a_cleared_group(rt: HostRuntime) -> Result<(), Fail> {
     Ok(())
 }
 
-/// Whether the append of one record works where every call after so many fails, and what a stop then leaves.
-fn stopped(alloc: Global, calls: u64, fill: u8) -> Result<Option<(bool, Text)>, OutOfMemory> {
-    let mut site = formatted(alloc, 64, Faults::new(alloc))?;
+/// A site with a journal of the first record, open at its end.
+fn with_first(alloc: Global) -> Result<Option<(MemSite, Journal)>, OutOfMemory>
+    ensures { IfOk result (λ o. IfSome o (λ both. (both.1.tail + both.1.left ≡ both.0.sight.size) × (both.1.ended ≡ true))) }
+{
+    let mut site = formatted(alloc, 128, Faults::new(alloc))?;
     let sealed = frame(alloc, A)?;
     let Some(mut journal) = at_end(alloc, &mut site) else {
+        return Ok(None);
+    };
+    match journal.append(&mut site, &sealed) {
+        Ok(()) => Ok(Some((site, journal))),
+        Err(_) => Ok(None),
+    }
+}
+
+/// Whether the append of a second record works where every call after so many fails, and what a stop then leaves.
+fn stopped(alloc: Global, calls: u64, fill: u8) -> Result<Option<(bool, Text)>, OutOfMemory> {
+    let sealed = frame(alloc, B)?;
+    let Some((mut site, mut journal)) = with_first(alloc)? else {
         return Ok(None);
     };
     site.fuse(calls);
@@ -183,61 +197,17 @@ fn stopped(alloc: Global, calls: u64, fill: u8) -> Result<Option<(bool, Text)>, 
     Ok(Some((worked, site.stop_image(alloc, fill)?)))
 }
 
-/// The same for the append of the three records in one group.
+/// The same for the append of two further records in one group.
 fn group_stopped(alloc: Global, calls: u64, fill: u8) -> Result<Option<(bool, Text)>, OutOfMemory> {
-    let mut site = formatted(alloc, 128, Faults::new(alloc))?;
-    let group = three(alloc)?;
-    let Some(mut journal) = at_end(alloc, &mut site) else {
+    let mut group = Group::new(alloc)?;
+    group.add(B);
+    group.add(ISSUE);
+    let Some((mut site, mut journal)) = with_first(alloc)? else {
         return Ok(None);
     };
     site.fuse(calls);
     let worked = journal.append_group(&mut site, &group).is_ok();
     Ok(Some((worked, site.stop_image(alloc, fill)?)))
-}
-
-/// Whether the image of a stop after so many calls is one that may be left: before the gate is written, the empty
-/// journal; then that or the records behind an open gate; at the end the records.
-fn may_be_left(calls: u64, fill: u8, image: &[u8], records: &[u8]) -> bool {
-    let is_open = calls >= 4 || (calls >= 2 && fill != 0);
-    if !is_open {
-        return image.starts_with(EMPTY);
-    }
-    image.len() > 17 && image[16] != 0 && image[17..].starts_with(records)
-}
-
-#[test]
-fn stops_of_append(rt: HostRuntime) -> Result<(), Fail> {
-    for calls in 0..6 {
-        for fill in [0, 1, 255] {
-            let Some((worked, image)) = stopped(rt.alloc(), calls, fill)? else {
-                panic!(&rt; "open");
-            };
-            assert_eq!(rt; worked, calls >= 4);
-            assert!(rt;
-                may_be_left(
-                    calls,
-                    fill,
-                    image.bytes(),
-                    b"\0\0\0\x11\x01\0\x0d080000,PART,A\0\0"
-                )
-            );
-        }
-    }
-    Ok(())
-}
-
-#[test]
-fn stops_of_append_group(rt: HostRuntime) -> Result<(), Fail> {
-    for calls in 0..6 {
-        for fill in [0, 1, 255] {
-            let Some((worked, image)) = group_stopped(rt.alloc(), calls, fill)? else {
-                panic!(&rt; "open");
-            };
-            assert_eq!(rt; worked, calls >= 4);
-            assert!(rt; may_be_left(calls, fill, image.bytes(), THREE.split_at(17).1));
-        }
-    }
-    Ok(())
 }
 
 /// The next record is this one.
@@ -255,6 +225,61 @@ fn reads(
         Ok(found) => assert_eq!(rt; found.as_ref().map(|text| text.bytes()), payload),
         Err(_) => panic!(rt; "read"),
     }
+}
+
+/// The image holds these payloads, at most three.
+fn holds(rt: &impl Abort, alloc: Global, image: &[u8], list: &[&[u8]]) -> Result<(), OutOfMemory> {
+    let mut site = site_of(alloc, image)?;
+    let Ok(mut journal) = open_journal(alloc, &mut site) else {
+        panic!(rt; "open");
+    };
+    reads(rt, alloc, &mut journal, &mut site, list.first().copied());
+    reads(rt, alloc, &mut journal, &mut site, list.get(1).copied());
+    reads(rt, alloc, &mut journal, &mut site, list.get(2).copied());
+    reads(rt, alloc, &mut journal, &mut site, None);
+    Ok(())
+}
+
+/// How many records stand after a stop behind so many calls of an append: the gate is written by the third, and firm by
+/// the fourth; in between, a stop may leave any byte there.
+fn standing(calls: u64, fill: u8, before: usize, after: usize) -> usize
+    ensures { result ≡ before ⊎ result ≡ after }
+{
+    if calls >= 4 || (calls >= 2 && fill != 0) {
+        after
+    } else {
+        before
+    }
+}
+
+#[test]
+fn stops_of_append(rt: HostRuntime) -> Result<(), Fail> {
+    for calls in 0..6 {
+        for fill in [0, 1, 255] {
+            let Some((worked, image)) = stopped(rt.alloc(), calls, fill)? else {
+                panic!(&rt; "open");
+            };
+            assert_eq!(rt; worked, calls >= 4);
+            let count = standing(calls, fill, 1, 2);
+            holds(&rt, rt.alloc(), image.bytes(), &[A, B][..count])?;
+        }
+    }
+    Ok(())
+}
+
+#[test]
+fn stops_of_append_group(rt: HostRuntime) -> Result<(), Fail> {
+    for calls in 0..6 {
+        for fill in [0, 1, 255] {
+            let Some((worked, image)) = group_stopped(rt.alloc(), calls, fill)? else {
+                panic!(&rt; "open");
+            };
+            assert_eq!(rt; worked, calls >= 4);
+            let count = standing(calls, fill, 1, 3);
+            holds(&rt, rt.alloc(), image.bytes(), &[A, B, ISSUE][..count])?;
+        }
+    }
+    Ok(())
 }
 
 #[test]
@@ -317,6 +342,7 @@ fn lengths(rt: HostRuntime) {
     });
     assert_eq!(rt; first(alloc, &with_length([0, 0, 0, 0x2a])), Ok(Some(42)));
     assert_eq!(rt; first(alloc, &with_length([0, 0, 0, 0x2b])), damaged);
+    assert_eq!(rt; first(alloc, &with_length([0, 0, 0, 0xc8])), damaged);
     assert_eq!(rt; first(alloc, &with_length([0xff; 4])), damaged);
     assert_eq!(rt; first(alloc, b"DALI-JOURNAL\0\0\0\x01\x01"), damaged);
 }
