@@ -9,3 +9,4 @@ pub mod Opened
 pub mod Touching
 pub mod SetLaws
 pub mod KeptLaws
+pub mod EffectTests

@@ -1,4 +1,4 @@
-use Rattle.std.specs.Prelude.{◌≡◌, ℕ, ◌<◌, ℤ, pos, ◌+ℤ◌, ◌-ℤ◌, Bool, not, ◌||◌, List, length, slice_index_or}
+use Rattle.std.specs.Prelude.{◌≡◌, ℕ, ◌<◌, ℤ, pos, ◌+ℤ◌, ◌-ℤ◌, Bool, not, ◌&&◌, ◌||◌, List, length, slice_index_or}
 use Rattle.std.specs.List.{Contains}
 use Rattle.dali_problem.specs.declared.line_sum.LineSum.{LineSum}
 use Rattle.dali_problem.specs.declared.mark.Mark.{Mark}
@@ -52,3 +52,20 @@ moved s from to a = record {
 -- the line of an effect covers what is undecided, where the effect is a debit
 abbrev pub pays : List LineSum → Effect → Bool
 pays sums e = not (is_negative e.amount) || not (is_negative ((sum_at sums e.line).held +ℤ (sum_at sums e.line).debits))
+
+-- the line of an effect isn't short with its undecided place chosen, and isn't with it left
+abbrev pub bears_chosen : List LineSum → Effect → Bool
+bears_chosen sums e =
+    not (is_negative ((sum_at sums e.line).held +ℤ (sum_at sums e.line).credits +ℤ int_min (pos 0) e.amount))
+
+abbrev pub bears_left : List LineSum → Effect → Bool
+bears_left sums e =
+    not (is_negative ((sum_at sums e.line).held +ℤ (sum_at sums e.line).credits -ℤ int_max (pos 0) e.amount))
+
+-- the effect is no debit, or its line bears its undecided place chosen
+abbrev pub bears : List LineSum → Effect → Bool
+bears sums e = not (is_negative e.amount) || bears_chosen sums e
+
+-- the line of an effect bears its undecided place on either side
+abbrev pub is_quiet : List LineSum → Effect → Bool
+is_quiet sums e = bears_chosen sums e && bears_left sums e

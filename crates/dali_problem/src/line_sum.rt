@@ -1,4 +1,4 @@
-ghost use Rattle.std.specs.Prelude.{◌≡◌, ℕ, ◌*◌, ◌^◌, ◌<◌, ℤ, pos, ◌+ℤ◌, ◌-ℤ◌, ◌||◌, not, length};
+ghost use Rattle.std.specs.Prelude.{◌≡◌, ℕ, ◌*◌, ◌^◌, ◌<◌, ℤ, pos, ◌+ℤ◌, ◌-ℤ◌, ◌&&◌, ◌||◌, not, length};
 ghost use Rattle.std.specs.List.{All, AllPairs, list_all};
 ghost use Rattle.std.specs.Int.{int_max, int_min};
 ghost use Rattle.dali_problem.specs.Sums.{pick, sum_over};
@@ -6,7 +6,7 @@ ghost use Rattle.dali_problem.specs.Clearing.{on_line};
 ghost use Rattle.dali_problem.specs.Limits.{Within};
 ghost use Rattle.dali_problem.specs.Partial.{is_chosen, is_undecided};
 ghost use Rattle.dali_problem.specs.Rules.{is_negative};
-ghost use Rattle.dali_problem.specs.Kept.{IsSmall, pays};
+ghost use Rattle.dali_problem.specs.Kept.{IsSmall, pays, bears, is_quiet};
 
 use crate::mark::Mark;
 use crate::row::{Effect, LineRow};
@@ -163,6 +163,43 @@ pub(crate) fn pays_all(sums: &[LineSum], effects: &[Effect]) -> bool
     ensures { result ≡ list_all (pays sums.now) effects.now }
 {
     effects.iter().all(|effect| pays_effect(sums, effect))
+}
+
+/// Whether the effect is no debit, or its line isn't short with the place of the effect chosen, which is undecided.
+fn bears_effect(sums: &[LineSum], effect: &Effect) -> bool
+    requires line { effect.now.line < length sums.now }
+    requires small { All (IsSmall (2 ^ 100)) sums.now }
+    ensures { result ≡ bears sums.now effect.now }
+{
+    effect.amount >= 0 || !is_short_if_chosen(&sums[effect.line as usize], &effect.amount)
+}
+
+/// Whether none of the lines that the effects debit is short with their place chosen, which is undecided.
+pub(crate) fn bears_all(sums: &[LineSum], effects: &[Effect]) -> bool
+    requires lines { All (λ e. e.line < length sums.now) effects.now }
+    requires small { All (IsSmall (2 ^ 100)) sums.now }
+    ensures { result ≡ list_all (bears sums.now) effects.now }
+{
+    effects.iter().all(|effect| bears_effect(sums, effect))
+}
+
+/// Whether the line of the effect is short neither with its place chosen nor with it left, which is undecided.
+fn is_quiet_effect(sums: &[LineSum], effect: &Effect) -> bool
+    requires line { effect.now.line < length sums.now }
+    requires small { All (IsSmall (2 ^ 100)) sums.now }
+    ensures { result ≡ is_quiet sums.now effect.now }
+{
+    let sum = &sums[effect.line as usize];
+    !is_short_if_chosen(sum, &effect.amount) && !is_short_if_left(sum, &effect.amount)
+}
+
+/// Whether none of the lines of the effects is short with their place chosen or with it left, which is undecided.
+pub(crate) fn all_quiet(sums: &[LineSum], effects: &[Effect]) -> bool
+    requires lines { All (λ e. e.line < length sums.now) effects.now }
+    requires small { All (IsSmall (2 ^ 100)) sums.now }
+    ensures { result ≡ list_all (is_quiet sums.now) effects.now }
+{
+    effects.iter().all(|effect| is_quiet_effect(sums, effect))
 }
 
 /// What effects on rising lines change this line by.

@@ -1,12 +1,13 @@
-ghost use Rattle.std.specs.Prelude.{◌≡◌, ℕ, ◌<◌, Bool, length, IsTrue, IfOk, slice_set, if◌then◌else◌};
-ghost use Rattle.dali_problem.specs.Clearing.{Clearing};
+ghost use Rattle.std.specs.Prelude.{◌≡◌, ℕ, ◌<◌, Bool, ◌&&◌, ◌||◌, not, length, IsTrue, IfOk, slice_set, if◌then◌else◌};
+ghost use Rattle.std.specs.List.{All, list_all};
+ghost use Rattle.dali_problem.specs.Clearing.{Clearing, item_at};
 ghost use Rattle.dali_problem.specs.Partial.{mark, is_decided};
-ghost use Rattle.dali_problem.specs.Feasible.{ArePlaces};
-ghost use Rattle.dali_problem.specs.Rules.{is_short, is_barred, is_needed, is_safe};
+ghost use Rattle.dali_problem.specs.Rules.{is_negative, is_short, is_barred, is_needed, is_safe};
 ghost use Rattle.dali_problem.specs.Kept.{IsOf, AllUndecided};
 
 use crate::line_sum::{
-    LineSum, amount_on, is_short_if_chosen, is_short_if_left, is_short_now, pays_all,
+    LineSum, all_quiet, amount_on, bears_all, is_short_if_chosen, is_short_if_left, is_short_now,
+    pays_all,
 };
 use crate::mark::Mark;
 use crate::problem::Problem;
@@ -36,9 +37,9 @@ impl Model for Partial {
 }
 
 impl Partial {
-    /// The members of a problem, all undecided.
+    /// The members of a problem, all undecided. They may stand in any order, and more than once.
     pub fn new(alloc: Global, problem: &Problem, members: &Places) -> Result<Partial, OutOfMemory>
-        requires { ArePlaces problem.now members.now }
+        requires { All (λ j. j < length problem.now.items) members.now }
         ensures of { IfOk result (λ partial. IsOf problem.now partial) }
         ensures undecided { IfOk result (λ partial. AllUndecided partial.marks members.now) }
     {
@@ -141,5 +142,32 @@ impl Partial {
             return false;
         }
         pays_all(self.sums.as_slice(), problem.effects(place))
+    }
+
+    /// Whether no line that a place debits bars it. True where the place isn't undecided. Looks at each effect once.
+    pub fn bears(&self, problem: &Problem, place: u32) -> bool
+        requires of { IsOf problem.now self.now }
+        requires place { place < length problem.now.items }
+        ensures { result
+            ≡ list_all (λ e. not (is_negative e.amount) || not (is_barred problem.now self.now.marks place e.line)) (item_at problem.now place).effects }
+    {
+        if !self.marks[place as usize].is_undecided() {
+            return true;
+        }
+        bears_all(self.sums.as_slice(), problem.effects(place))
+    }
+
+    /// Whether no line that a place changes bars it or needs it. True where the place isn't undecided. Looks at each
+    /// effect once.
+    pub fn is_quiet(&self, problem: &Problem, place: u32) -> bool
+        requires of { IsOf problem.now self.now }
+        requires place { place < length problem.now.items }
+        ensures { result
+            ≡ list_all (λ e. not (is_barred problem.now self.now.marks place e.line) && not (is_needed problem.now self.now.marks place e.line)) (item_at problem.now place).effects }
+    {
+        if !self.marks[place as usize].is_undecided() {
+            return true;
+        }
+        all_quiet(self.sums.as_slice(), problem.effects(place))
     }
 }
