@@ -1,4 +1,4 @@
-use Rattle.std.proofs.Common.{true, None, if◌then◌else◌, ◌≡◌, ◌≢◌, inl, inr, ℕ, ◌<◌, ◌+◌, List, [], ◌∷◌, ◌++◌, length, take, drop, get_or, set, refl, ap, sym, ◌∙◌, subst}
+use Rattle.std.proofs.Common.{Bool, true, false, Option, Some, None, if◌then◌else◌, ◌≡◌, ◌≢◌, inl, inr, ℕ, ◌<◌, ◌+◌, List, [], ◌∷◌, ◌++◌, length, take, drop, get_or, set, refl, ap, sym, ◌∙◌, subst}
 use Rattle.std.specs.List.{All}
 use Rattle.std.proofs.lemmas.Bool.{cases_eq, cases_lt}
 use Rattle.std.proofs.lemmas.List.{set_comm, set-set, set-get_or, get_or-set_same, get_or-set_other, get_or_past, take_more, drop_more}
@@ -84,3 +84,31 @@ after_step p fixes i d fix f g within read told is =
     ∙ sym (ap (λ b. if b then after p (drop (i + 1) fixes) (set f (place_of fix) (becomes fix)) else None) told)
     ∙ ap (λ (x : Fix). after p (x ∷ drop (i + 1) fixes) f) read
     ∙ ap (λ (xs : List Fix). after p xs f) (sym (drop_more fixes i d within))
+
+-- a fix more is taken where those before were
+after_push : (p : Clearing) (fixes : List Fix) (fix : Fix) (f g : List Mark) → after p fixes f ≡ Some g → holds p g fix ≡ true →
+    after p (fixes ++ fix ∷ []) f ≡ Some (set g (place_of fix) (becomes fix))
+after_push p [] fix f g before told =
+    let same : f ≡ g = cc before in
+    ap (λ (h : List Mark). after p (fix ∷ []) h) same
+    ∙ ap (λ b. if b then Some (set g (place_of fix) (becomes fix)) else None) told
+after_push p (x ∷ fixes) fix f g before told =
+    by_holds (holds p f x) (after p fixes (set f (place_of x) (becomes x))) (after p (fixes ++ fix ∷ []) (set f (place_of x) (becomes x)))
+    (Some g) (Some (set g (place_of fix) (becomes fix))) before
+    (λ taken. after_push p fixes fix (set f (place_of x) (becomes x)) g taken told)
+    (λ none. absurd (cc none))
+  where
+    by_holds : (b : Bool) (fewer all x y : Option (List Mark)) → (if b then fewer else None) ≡ x → (fewer ≡ x → all ≡ y) →
+        (None ≡ x → ⊥) → (if b then all else None) ≡ y
+    by_holds true fewer all x y is go wrong = go is
+    by_holds false fewer all x y is go wrong = absurd (wrong is)
+
+pub taken_step : (p : Clearing) (fixes : List Fix) (i : ℕ) (d fix : Fix) (start f g : List Mark) → i < length fixes → fix ≡ get_or fixes i d →
+    holds p f fix ≡ true → g ≡ set f (place_of fix) (becomes fix) → after p (take i fixes) start ≡ Some f →
+    after p (take (i + 1) fixes) start ≡ Some g
+taken_step p fixes i d fix start f g within read told is before =
+    let more : take (i + 1) fixes ≡ take i fixes ++ fix ∷ [] =
+    take_more fixes i d within ∙ ap (λ (x : Fix). take i fixes ++ x ∷ []) (sym read) in
+    ap (λ (xs : List Fix). after p xs start) more
+    ∙ after_push p (take i fixes) fix start f before told
+    ∙ ap Some (sym is)

@@ -1,15 +1,17 @@
-ghost use Rattle.std.specs.Prelude.{◌≡◌, ◌≢◌, ◌<◌, ◌≤◌, length, take, IsTrue, Some, None, slice_set, false, if◌then◌else◌};
+ghost use Rattle.std.specs.Prelude.{◌≡◌, ◌≢◌, ◌<◌, ◌≤◌, length, take, IsTrue, Some, None, slice_set, slice_index_or, false, if◌then◌else◌};
 ghost use Rattle.std.specs.List.{All, list_all};
 ghost use Rattle.dali_problem.specs.declared.mark.Mark.TheVariants.{Stranger, Undecided, Chosen, Left};
 ghost use Rattle.dali_problem.specs.Partial.{mark};
 ghost use Rattle.dali_problem.specs.Kept.{IsOf};
+ghost use Rattle.dali_tree.specs.declared.fix.Fix.{Fix};
 ghost use Rattle.dali_tree.specs.Fits.{fix_fits};
 ghost use Rattle.dali_fixes.specs.Fixed.{place_of, becomes, holds, after, undone};
 
 use dali_problem::{Partial, Problem};
 use dali_tree::Fix;
 
-/// Takes fixes in order, up to the first whose rule doesn't hold at its point, and answers how many were taken.
+/// Takes fixes in order, up to the first whose rule doesn't hold at its point, and answers how many were taken. They
+/// stay taken.
 ///
 /// `undo` with those that were taken makes the partial choice as it was.
 pub fn apply(problem: &Problem, fixes: &[Fix], partial: &mut Partial) -> usize
@@ -17,8 +19,10 @@ pub fn apply(problem: &Problem, fixes: &[Fix], partial: &mut Partial) -> usize
     requires fits { IsTrue (list_all (fix_fits (length problem.now.items) (length problem.now.lines)) fixes.now) }
     ensures of { IsOf problem.now partial.new }
     ensures within { result ≤ length fixes.now }
+    ensures taken { after problem.now (take result fixes.now) partial.old.marks ≡ Some partial.new.marks }
+    ensures stopped { result < length fixes.now → (d : Fix) → holds problem.now partial.new.marks (slice_index_or fixes.now result d) ≡ false }
     ensures all { result ≡ length fixes.now → after problem.now fixes.now partial.old.marks ≡ Some partial.new.marks }
-    ensures stopped { result < length fixes.now → after problem.now fixes.now partial.old.marks ≡ None }
+    ensures none { result < length fixes.now → after problem.now fixes.now partial.old.marks ≡ None }
     ensures back { undone (take result fixes.now) partial.new.marks ≡ partial.old.marks }
     ensures members { All (λ fix. mark partial.new.marks (place_of fix) ≢ Stranger) (take result fixes.now) }
 {

@@ -1,5 +1,7 @@
-use Rattle.std.proofs.Common.{◌≡◌, ◌≢◌, inl, inr, ◌⊎◌, ℕ, zero, suc, ◌+◌, ◌<◌, ℤ, pos, ◌+ℤ◌, ◌≤ℤ◌, ◌<ℤ◌, Bool, true, false, ◌&&◌, List, [], ◌∷◌, ◌++◌, length, get_or, set, refl, ap, sym, ◌∙◌, subst, arith, length-set}
-use Rattle.std.specs.List.{All, AllPairs, Contains}
+use Rattle.std.proofs.Common.{◌≡◌, ◌≢◌, inl, inr, ◌⊎◌, ℕ, zero, suc, ◌+◌, ◌<◌, ℤ, pos, ◌+ℤ◌, ◌≤ℤ◌, ◌<ℤ◌, Bool, true, false, ◌&&◌, ◌||◌, not, List, [], ◌∷◌, ◌++◌, length, get_or, set, refl, ap, sym, ◌∙◌, subst, arith, length-set}
+use Rattle.std.specs.Bool.{Decides}
+use Rattle.std.specs.List.{All, AllPairs, Contains, list_all}
+use Rattle.std.proofs.lemmas.Bool.Decides.{Decides-by_and}
 use Rattle.std.specs.Int.{int_max}
 use Rattle.std.specs.Prelude.{if◌then◌else◌}
 use Rattle.std.proofs.lemmas.Bool.{cases_eq}
@@ -72,37 +74,35 @@ negative z down = grind (arith, ints)
 negative_of : (z : ℤ) → is_negative z ≡ true → z <ℤ pos 0
 negative_of z told = grind (arith, ints)
 
-and_false : (a b : Bool) → a ≡ true → (a && b) ≡ false → b ≡ false
-and_false true b first whole = whole
-and_false false b first whole = absurd (cc first)
+-- the test of a place's debits
+abbrev pub bears : Clearing → List Mark → ℕ → Effect → Bool
+bears p f j e = not (is_negative e.amount) || not (is_barred p f j e.line)
 
-and_first : (a b : Bool) → (a && b) ≡ true → a ≡ true
-and_first true b whole = refl
-and_first false b whole = whole
+-- no line that it debits bars it exactly where each of them pays it
+pub bears_paid : (p : Clearing) (f : List Mark) (j : ℕ) (told : Bool) → IsProblem p → length f ≡ length p.items → j < length p.items → mark f j ≡ Undecided →
+    told ≡ list_all (bears p f j) (item_at p j).effects →
+    (told ≡ true → IsPaid p f j) × (IsPaid p f j → told ≡ true)
+bears_paid p f j told limits size within undec is =
+    let all : Decides (list_all (bears p f j) (item_at p j).effects) (All (λ e. bears p f j e ≡ true) (item_at p j).effects) =
+    Decides-by_and (bears p f j) (λ e. bears p f j e ≡ true) (list_all (bears p f j)) (λ e. (λ x. x, λ x. x)) refl (λ _ _. refl) (item_at p j).effects in (
+      (λ yes. paid_from p f j limits size within undec (λ k d below down.
+      unbarred (is_negative (get_or (item_at p j).effects k d).amount) (is_barred p f j (get_or (item_at p j).effects k d).line)
+      (negative (get_or (item_at p j).effects k d).amount down) (all.0 (sym is ∙ yes) k d below))),
+      (λ paid. is ∙ all.1 (λ k d below. by_test (is_negative (get_or (item_at p j).effects k d).amount)
+      (λ down. ap (λ b. not (is_negative (get_or (item_at p j).effects k d).amount) || not b)
+      (barred_unpaid p f j k d limits size within undec below (negative_of (get_or (item_at p j).effects k d).amount down) paid)
+      ∙ or_true (not (is_negative (get_or (item_at p j).effects k d).amount)))
+      (λ credit. ap (λ b. not b || not (is_barred p f j (get_or (item_at p j).effects k d).line)) credit))),
+    )
+  where
+    unbarred : (a b : Bool) → a ≡ true → (not a || not b) ≡ true → b ≡ false
+    unbarred true true first whole = absurd (cc whole)
+    unbarred true false first whole = refl
+    unbarred false b first whole = absurd (cc first)
 
-and_second : (a b : Bool) → (a && b) ≡ true → b ≡ true
-and_second true b whole = whole
-and_second false b whole = absurd (cc whole)
-
-pub paid_all : (p : Clearing) (f : List Mark) (j : ℕ) → IsProblem p → length f ≡ length p.items → j < length p.items → mark f j ≡ Undecided →
-    ((k : ℕ) (d : Effect) → k < length (item_at p j).effects →
-    (is_negative (get_or (item_at p j).effects k d).amount && is_barred p f j (get_or (item_at p j).effects k d).line) ≡ false) →
-    IsPaid p f j
-paid_all p f j limits size within undec none =
-    paid_from p f j limits size within undec (λ k d below down.
-    and_false (is_negative (get_or (item_at p j).effects k d).amount) (is_barred p f j (get_or (item_at p j).effects k d).line)
-    (negative (get_or (item_at p j).effects k d).amount down) (none k d below))
-
-pub unpaid_one : (p : Clearing) (f : List Mark) (j k : ℕ) (d : Effect) → IsProblem p → length f ≡ length p.items → j < length p.items → mark f j ≡ Undecided →
-    k < length (item_at p j).effects → (is_negative (get_or (item_at p j).effects k d).amount && is_barred p f j (get_or (item_at p j).effects k d).line) ≡ true →
-    ¬ (IsPaid p f j)
-unpaid_one p f j k d limits size within undec below told paid =
-    let a : Bool = is_negative (get_or (item_at p j).effects k d).amount in
-    let b : Bool = is_barred p f j (get_or (item_at p j).effects k d).line in
-    let down = negative_of (get_or (item_at p j).effects k d).amount (and_first a b told) in
-    let barred : b ≡ true = and_second a b told in
-    let free : b ≡ false = barred_unpaid p f j k d limits size within undec below down paid in
-    cc (barred, free)
+    or_true : (a : Bool) → (a || true) ≡ true
+    or_true true = refl
+    or_true false = refl
 
 -- a list of undecided places gives no more than all undecided places
 up_le : (b : Bool) (m : Mark) (e : ℤ) → (b ≡ true → m ≡ Undecided) → pick b (int_max (pos 0) e) ≤ℤ pick (is_undecided m) (int_max (pos 0) e)

@@ -1,9 +1,8 @@
-ghost use Rattle.std.specs.Prelude.{◌≡◌, ◌↔◌, ℕ, ◌<◌, ◌&&◌, [], length, IsTrue, IsFalse};
+ghost use Rattle.std.specs.Prelude.{◌≡◌, ◌↔◌, ℕ, ◌<◌, [], length, IsTrue, IsFalse};
 ghost use Rattle.std.specs.List.{All, Contains};
 ghost use Rattle.dali_problem.specs.Feasible.{ArePlaces, IsFeasible};
 ghost use Rattle.dali_problem.specs.declared.mark.Mark.{Mark};
 ghost use Rattle.dali_problem.specs.Partial.{mark};
-ghost use Rattle.dali_problem.specs.Rules.{is_negative, is_barred};
 ghost use Rattle.dali_problem.specs.Rest.{IsRest};
 ghost use Rattle.dali_rest.specs.Addable.{CanAddRest};
 ghost use Rattle.dali_rest.specs.Room.{IsRoomOf, IsCovered, undecided_below};
@@ -12,7 +11,7 @@ ghost use Rattle.dali_rest.specs.Turns.{IsPaid, IsTurn, IsOpened, AreChosen, und
 
 use crate::room::Room;
 use dali_base::Places;
-use dali_problem::{Effect, Problem};
+use dali_problem::Problem;
 
 impl Room {
     /// Whether the rest of the members outside a feasible set isn't empty, and the set with all of it is feasible.
@@ -84,29 +83,15 @@ impl Room {
         taken
     }
 
-    /// Whether each line that an undecided place debits pays it, with all that undecided places give.
+    /// Whether each line that an undecided place debits pays it, with all that undecided places give. Looks at each of
+    /// its effects once.
     fn is_paid(&self, problem: &Problem, place: u32) -> bool
         requires room { IsRoomOf problem.now self.now }
         requires undecided { mark self.now.marks place ≡ Mark.Undecided }
         ensures { IsTrue result ↔ IsPaid problem.now self.now.marks place }
     {
-        for effect in problem.effects(place) {
-            if self.is_unpaid(problem, place, effect) {
-                return false;
-            }
-        }
-        true
-    }
-
-    /// Whether an effect of an undecided place is a debit that its line doesn't pay.
-    #[tactic(auto, using(std::proofs::lemmas::Int::ints))]
-    fn is_unpaid(&self, problem: &Problem, place: u32, effect: &Effect) -> bool
-        requires room { IsRoomOf problem.now self.now }
-        requires place { place < length problem.now.items }
-        requires line { effect.now.line < length problem.now.lines }
-        ensures { result ≡ (is_negative effect.now.amount && is_barred problem.now self.now.marks place effect.now.line) }
-    {
-        effect.amount < 0 && self.partial.is_barred(problem, place, effect.line)
+        let _items = problem.items();
+        self.partial.bears(problem, place)
     }
 
     /// Chooses the undecided places. Whether there was one.

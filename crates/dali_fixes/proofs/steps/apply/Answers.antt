@@ -1,7 +1,7 @@
 use Rattle.std.proofs.Common.{◌≡◌, ◌<◌, length, get_or, true, refl, sym, ◌∙◌}
 use Rattle.dali_tree.specs.declared.fix.Fix.{Fix}
 use Rattle.dali_tree.specs.declared.fix.Fix.TheVariants.{Barred}
-use Rattle.dali_fixes.proofs.Undoing.{undone_step, members_step, after_step}
+use Rattle.dali_fixes.proofs.Undoing.{undone_step, members_step, after_step, taken_step}
 use Rattle.dali_fixes.proofs.steps.apply.Goals as goal
 
 pub loop-taken-preserved : goal.loop-taken-preserved
@@ -17,6 +17,8 @@ loop-taken-preserved c =
       of = c.take_one.ensures.of;
       rest = after_step c.args.problem.now c.args.fixes.now at d fix c.loop-taken.partial.marks c.take_one.new.partial.marks within refl
           (sym c.take_one.ensures.told ∙ told) is ∙ c.loop-taken.invariant.rest;
+      taken = taken_step c.args.problem.now c.args.fixes.now at d fix c.args.partial.now.marks c.loop-taken.partial.marks c.take_one.new.partial.marks within refl
+          (sym c.take_one.ensures.told ∙ told) is c.loop-taken.invariant.taken;
       back = undone_step c.args.fixes.now at d fix c.args.partial.now.marks c.loop-taken.partial.marks c.take_one.new.partial.marks within refl was is
           c.loop-taken.invariant.back;
       members = members_step c.args.fixes.now at d fix c.loop-taken.partial.marks c.take_one.new.partial.marks within refl was is
