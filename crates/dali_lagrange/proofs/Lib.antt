@@ -14,3 +14,4 @@ pub mod Starts
 pub mod SettledLaws
 pub mod Downward
 pub mod Lists
+pub mod Narrowing

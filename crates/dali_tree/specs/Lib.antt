@@ -1,2 +1,4 @@
 pub mod Tree
 pub mod Fits
+pub mod Range
+pub mod Ends

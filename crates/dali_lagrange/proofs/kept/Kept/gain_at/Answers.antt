@@ -11,7 +11,7 @@ returns-then-is_gain-clause-gain c =
     let stored_sum : to_z w128 (of_z w128 c.sum.result) ≡ c.sum.result = omega (arith, ints, c.sum.type_inv) in
     let stored_rise : to_z w128 (of_z w128 c.rise-rise.result) ≡ c.rise-rise.result = omega (arith, ints, c.rise-rise.type_inv) in
     let old : to_z w128 (of_z w128 c.sum.result) ≡ c.args.self.now.total = stored_sum ∙ c.sum.ensures.kept in
-    let after = after_rise c.args.problem.now c.args.self.now c.args.line c.multiplier.result c.best_at-best.result (to_z w128 (of_z w128 c.rise-rise.result)) c.requires.of
+    let after = after_rise c.args.problem.now c.args.self.now c.args.line c.multiplier.result c.best_within-best.result (to_z w128 (of_z w128 c.rise-rise.result)) c.requires.of
     c.multiplier.ensures.value (stored_rise ∙ c.rise-rise.ensures.exact) in
     let gain = c.is_gain.ensures.0 c.if-is_gain.true in
     subst (IsGain c.args.self.now.total) after (subst (λ z. IsGain z (z +ℤ to_z w128 (of_z w128 c.rise-rise.result))) old gain)
@@ -21,9 +21,9 @@ returns-else-is_gain-clause-none c =
     let stored_sum : to_z w128 (of_z w128 c.sum.result) ≡ c.sum.result = omega (arith, ints, c.sum.type_inv) in
     let stored_rise : to_z w128 (of_z w128 c.rise-rise.result) ≡ c.rise-rise.result = omega (arith, ints, c.rise-rise.type_inv) in
     let old : to_z w128 (of_z w128 c.sum.result) ≡ c.args.self.now.total = stored_sum ∙ c.sum.ensures.kept in
-    let after = after_rise c.args.problem.now c.args.self.now c.args.line c.multiplier.result c.best_at-best.result (to_z w128 (of_z w128 c.rise-rise.result)) c.requires.of
+    let after = after_rise c.args.problem.now c.args.self.now c.args.line c.multiplier.result c.best_within-best.result (to_z w128 (of_z w128 c.rise-rise.result)) c.requires.of
     c.multiplier.ensures.value (stored_rise ∙ c.rise-rise.ensures.exact) in
-    still_from_best c.args.problem.now c.args.self.now.marks c.args.self.now.multipliers c.args.self.now.total c.args.line c.best_at-best.result c.best_at-best.ensures
+    still_from_best c.args.problem.now c.args.self.now.marks c.args.self.now.multipliers c.args.self.now.total c.args.line c.best_within-best.result c.best_within-best.ensures
     (λ gain.
     let told : c.is_gain.result ≡ true = c.is_gain.ensures.1 (subst (λ z. IsGain z (z +ℤ to_z w128 (of_z w128 c.rise-rise.result))) (sym old)
     (subst (IsGain c.args.self.now.total) (sym after) gain)) in
