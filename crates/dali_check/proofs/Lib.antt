@@ -5,7 +5,6 @@ pub mod AlikeTrees
 pub mod Points
 pub mod Entering
 pub mod Bounded
-pub mod Rising
 pub mod Reducing
 pub mod Parting
 pub mod Stands
@@ -16,3 +15,4 @@ pub mod Summing
 pub mod Passing
 pub mod Reasons
 pub mod Firsts
+pub mod Counting

@@ -9,7 +9,8 @@ use Rattle.dali_problem.specs.Sums.{sum_below, pick}
 use Rattle.dali_problem.specs.Clearing.{Clearing, worth, effect}
 use Rattle.dali_problem.specs.Partial.{mark, is_chosen, is_undecided, held}
 use Rattle.dali_problem.proofs.SumLaws.{sum_below_same}
-use Rattle.dali_tree.specs.Fits.{multiplier_fits, is_rising, lam_fits}
+use Rattle.dali_tree.specs.Fits.{is_rising}
+use Rattle.dali_tree.specs.Range.{multiplier_in_range, lam_in_range}
 use Rattle.dali_lagrange.specs.Bound.{reduced, sum_of}
 use Rattle.dali_lagrange.specs.Multipliers.{AreMultipliers}
 
@@ -30,21 +31,20 @@ lines_rise (m ∷ lam) told =
     above l (m ∷ lam) told (suc k) d below =
         above l lam (and_parts (ltb l m.0) (list_all (ltb l) (map (λ n. n.0) lam)) told).1 k d (omega arith)
 
--- multipliers that fit are multipliers of a point
-pub multipliers_of : (n : ℕ) (lam : List (ℕ × ℕ)) → lam_fits n lam ≡ true → AreMultipliers n lam
+-- multipliers in range are multipliers of a point
+pub multipliers_of : (n : ℕ) (lam : List (ℕ × ℕ)) → lam_in_range n lam ≡ true → AreMultipliers n lam
 multipliers_of n lam told =
-    let parts = and_parts (list_all (multiplier_fits n) lam) (is_rising (map (λ m. m.0) lam)) told in
-    let each = each_of (multiplier_fits n) lam parts.0 in
+    let parts = and_parts (list_all (multiplier_in_range n) lam) (is_rising (map (λ m. m.0) lam)) told in
+    let each = each_of (multiplier_in_range n) lam parts.0 in
     record {
       rising = lines_rise lam parts.1;
       in_range = (λ k d below. ltb-true (get_or lam k d).0 n (one n (get_or lam k d) (each k d below)).0);
       bounded = (λ k d below. leb-true (get_or lam k d).1 (2 ^ 44) (one n (get_or lam k d) (each k d below)).1);
     }
   where
-    one : (n : ℕ) (m : ℕ × ℕ) → multiplier_fits n m ≡ true → (ltb m.0 n ≡ true) × (leb m.1 (2 ^ 44) ≡ true)
+    one : (n : ℕ) (m : ℕ × ℕ) → multiplier_in_range n m ≡ true → (ltb m.0 n ≡ true) × (leb m.1 (2 ^ 44) ≡ true)
     one n m told =
-        let parts = and_parts (ltb m.0 n && leb 1 m.1) (leb m.1 (2 ^ 44)) told in
-        ((and_parts (ltb m.0 n) (leb 1 m.1) parts.0).0, parts.1)
+        and_parts (ltb m.0 n) (leb m.1 (2 ^ 44)) told
 
 -- the Sum asks for the multipliers of the problem's lines alone
 pub reduced_at : (p : Clearing) (lam mu : ℕ → ℕ) (j : ℕ) → ((l : ℕ) → l < length p.lines → lam l ≡ mu l) → reduced p lam j ≡ reduced p mu j

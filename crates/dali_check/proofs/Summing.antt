@@ -17,7 +17,8 @@ use Rattle.dali_problem.proofs.SetLaws.{is_in, value_in}
 use Rattle.dali_problem.proofs.Lines.{balance_small}
 use Rattle.dali_tree.specs.declared.choice.Part.{Part}
 use Rattle.dali_tree.specs.declared.choice.Choice.{Choice}
-use Rattle.dali_tree.specs.Fits.{AreRising, Fits}
+use Rattle.dali_tree.specs.Fits.{AreRising}
+use Rattle.dali_tree.specs.Range.{IsInRange}
 use Rattle.dali_fixes.proofs.Sets.{total, worth_of, Covers, Goes, covers_of}
 use Rattle.dali_check.specs.Sides.{has, opened}
 use Rattle.dali_check.specs.Proves.{proves_part}
@@ -105,7 +106,7 @@ covers_cut p w part limits covers alone = record {
   ]);
 }
 
-split_pick : (a b c : Bool) (x : ℤ) → (b && c) ≡ false → pick (a && (b || c)) x ≡ pick (a && b) x +ℤ pick (a && c) x
+pub split_pick : (a b c : Bool) (x : ℤ) → (b && c) ≡ false → pick (a && (b || c)) x ≡ pick (a && b) x +ℤ pick (a && c) x
 split_pick true true true x apart = absurd (false_true (sym apart))
 split_pick true true false x apart = omega (arith, ints)
 split_pick true false true x apart = omega (arith, ints)
@@ -113,7 +114,7 @@ split_pick true false false x apart = omega (arith, ints)
 split_pick false b c x apart = omega (arith, ints)
 
 -- no place is in the first part and in a later one
-apart_head : (q : Part) (parts : List Part) → Apart (λ (part : Part). has part.members) (q ∷ parts) → (j : ℕ) → (has q.members j && some_has parts j) ≡ false
+pub apart_head : (q : Part) (parts : List Part) → Apart (λ (part : Part). has part.members) (q ∷ parts) → (j : ℕ) → (has q.members j && some_has parts j) ≡ false
 apart_head q parts apart j = false_from_ne_true (has q.members j && some_has parts j) (λ told.
     let later : some_has parts j ≡ true = and_left_true (has q.members j) (some_has parts j) told in
     let found = any_finds (λ (part : Part). has part.members j) parts q later in
@@ -173,11 +174,11 @@ foreign_of p w parts partition separate k d within = record {
     first_false false b is none = refl
 
 -- no feasible set is worth more than the bounds of all parts together
-pub whole_bounds : (p : Clearing) (choice : Choice) (t : List ℕ) → IsProblem p → Fits (length p.items) (length p.lines) choice → IsWhole p choice →
+pub whole_bounds : (p : Clearing) (choice : Choice) (t : List ℕ) → IsProblem p → IsInRange (length p.items) (length p.lines) choice → IsWhole p choice →
     All (λ part. proves_part p part ≡ true) choice.parts → ArePlaces p t → IsFeasible p t → value_of p t ≤ bound_of choice.parts
-whole_bounds p choice t limits fits whole proved places feasible =
+whole_bounds p choice t limits ranges whole proved places feasible =
     let w : ℕ → Bool = λ (j : ℕ). is_in j t in
-    let most = parts_most p w choice.parts limits (λ k d within. (fits.parts k d within).members) proved whole.partition.apart
+    let most = parts_most p w choice.parts limits (λ k d within. (ranges.parts k d within).members) proved whole.partition.apart
     (foreign_of p w choice.parts whole.partition whole.separate) (covers_of p t limits places feasible) in
     let all = sum_below_same (λ j. pick (is_in j t && some_has choice.parts j) (pos (worth p j))) (λ j. pick (is_in j t) (pos (worth p j))) (length p.items)
     (λ j below. cut_pick (is_in j t) (some_has choice.parts j) (pos (worth p j)) (λ there out. absurd (false_true (sym out ∙ whole.partition.covered j below)))) in

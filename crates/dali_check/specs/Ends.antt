@@ -1,27 +1,14 @@
-use Rattle.std.specs.Prelude.{ℕ, Bool, nat_le, ◌&&◌, List, length}
-use Rattle.std.specs.List.{list_all}
+use Rattle.std.specs.Prelude.{ℕ, Bool, List}
 use Rattle.dali_problem.specs.declared.mark.Mark.{Mark}
 use Rattle.dali_problem.specs.Clearing.{Clearing}
 use Rattle.dali_tree.specs.declared.tree.End.{End}
 use Rattle.dali_tree.specs.declared.tree.End.TheFolds.{fold-End}
-use Rattle.dali_tree.specs.Tree.{count_step, depth_step}
-use Rattle.dali_tree.specs.Fits.{fix_fits, end_fits}
 use Rattle.dali_fixes.specs.Fixed.{after}
 use Rattle.dali_check.specs.Sides.{when_fixed}
 use Rattle.dali_check.specs.Proves.{proves_end}
 use Rattle.dali_check.specs.Lean.{lean_end, tight_end}
 
--- the same of an end that `branch_count`, `branch_depth`, `tree_fits`, `proves_tree`, `lean_tree` and `tight_tree` say of a tree
-abbrev pub end_count : End → ℕ
-end_count = fold-End ℕ ℕ count_step (λ node. node.end)
-
-abbrev pub end_depth : End → ℕ
-end_depth = fold-End ℕ ℕ depth_step (λ node. node.end)
-
-abbrev pub ends_fit : ℕ → ℕ → End → Bool
-ends_fit items lines = fold-End Bool Bool (end_fits items lines)
-    (λ node. nat_le (length node.fixes) 1024 && list_all (fix_fits items lines) node.fixes && node.end)
-
+-- the same of an end that `proves_tree`, `lean_tree` and `tight_tree` say of a tree
 abbrev pub proves_ends : Clearing → ℕ → End → List Mark → Bool
 proves_ends p bound = fold-End (List Mark → Bool) (List Mark → Bool) (proves_end p bound)
     (λ node f. when_fixed (after p node.fixes f) node.end)

@@ -3,7 +3,7 @@ ghost use Rattle.std.specs.List.{All, Any, filter};
 ghost use Rattle.dali_problem.specs.declared.mark.Mark.TheVariants.{Left};
 ghost use Rattle.dali_problem.specs.Kept.{IsOf};
 ghost use Rattle.dali_problem.specs.Feasible.{ArePlaces, IsFeasible, value_of};
-ghost use Rattle.dali_tree.specs.Fits.{PartFits, Fits};
+ghost use Rattle.dali_tree.specs.Range.{IsPartInRange, IsInRange};
 ghost use Rattle.dali_rest.specs.Addable.{CanAddOne, CanAddRest};
 ghost use Rattle.dali_rest.specs.Swappable.{CanSwap};
 ghost use Rattle.dali_rest.specs.Room.{IsRoomOf};
@@ -38,7 +38,7 @@ pub fn allowed(
     scratch: &mut Scratch,
 ) -> Result<(), NotAllowed>
     requires made { IsFor problem.now scratch.old }
-    requires fits { Fits (length problem.now.items) (length problem.now.lines) choice.now }
+    requires in_range { IsInRange (length problem.now.items) (length problem.now.lines) choice.now }
     ensures ok { OnOk result (Allowed problem.now budget choice.now) }
     ensures err { IfErr result (λ reason. IsReason problem.now budget choice.now reason) }
     ensures bound { OnOk result ((t : List ℕ) → ArePlaces problem.now t → IsFeasible problem.now t → value_of problem.now t ≤ bound_of choice.now.parts) }
@@ -63,7 +63,7 @@ pub fn allowed(
 /// The reasons of the parts' members and of the set.
 fn check_set(problem: &Problem, choice: &Choice, scratch: &mut Scratch) -> Result<(), NotAllowed>
     requires made { IsFor problem.now scratch.old }
-    requires fits { Fits (length problem.now.items) (length problem.now.lines) choice.now }
+    requires in_range { IsInRange (length problem.now.items) (length problem.now.lines) choice.now }
     ensures ok { OnOk result ((budget : ℕ) → Passed problem.now budget choice.now 6) }
     ensures whole { OnOk result (IsWhole problem.now choice.now) }
     ensures err { IfErr result (λ reason. (budget : ℕ) → IsReason problem.now budget choice.now reason) }
@@ -93,7 +93,7 @@ fn is_addable(problem: &Problem, set: &Places, parts: &[Part], tests: &mut Room)
     requires room { IsRoomOf problem.now tests.old }
     requires places { ArePlaces problem.now set.now }
     requires feasible { IsFeasible problem.now set.now }
-    requires fit { All (PartFits (length problem.now.items) (length problem.now.lines)) parts.now }
+    requires in_range { All (IsPartInRange (length problem.now.items) (length problem.now.lines)) parts.now }
     ensures answer { IsTrue result ↔ (CanAddOne problem.now set.now ⊎ Any (λ part. CanAddRest problem.now set.now part.members) parts.now) }
     ensures room { IsRoomOf problem.now tests.new }
 {
@@ -105,7 +105,7 @@ fn some_rest(problem: &Problem, set: &Places, parts: &[Part], tests: &mut Room) 
     requires room { IsRoomOf problem.now tests.old }
     requires places { ArePlaces problem.now set.now }
     requires feasible { IsFeasible problem.now set.now }
-    requires fit { All (PartFits (length problem.now.items) (length problem.now.lines)) parts.now }
+    requires in_range { All (IsPartInRange (length problem.now.items) (length problem.now.lines)) parts.now }
     ensures answer { IsTrue result ↔ Any (λ part. CanAddRest problem.now set.now part.members) parts.now }
     ensures room { IsRoomOf problem.now tests.new }
 {
@@ -122,7 +122,7 @@ fn some_swap(problem: &Problem, set: &Places, parts: &[Part], tests: &mut Room) 
     requires room { IsRoomOf problem.now tests.old }
     requires places { ArePlaces problem.now set.now }
     requires feasible { IsFeasible problem.now set.now }
-    requires fit { All (PartFits (length problem.now.items) (length problem.now.lines)) parts.now }
+    requires in_range { All (IsPartInRange (length problem.now.items) (length problem.now.lines)) parts.now }
     ensures answer { IsTrue result ↔ Any (λ part. CanSwap problem.now set.now part.members) parts.now }
     ensures room { IsRoomOf problem.now tests.new }
 {
@@ -137,7 +137,8 @@ fn some_swap(problem: &Problem, set: &Places, parts: &[Part], tests: &mut Room) 
 /// The reasons of the parts' trees.
 fn check_parts(problem: &Problem, choice: &Choice, scratch: &mut Scratch) -> Result<(), NotAllowed>
     requires made { IsFor problem.now scratch.old }
-    requires fits { Fits (length problem.now.items) (length problem.now.lines) choice.now }
+    requires in_range { IsInRange (length problem.now.items) (length problem.now.lines) choice.now }
+    requires whole { IsWhole problem.now choice.now }
     requires passed { (budget : ℕ) → Passed problem.now budget choice.now 6 }
     ensures ok { OnOk result ((budget : ℕ) → Passed problem.now budget choice.now 8) }
     ensures proved { OnOk result (All (λ part. proves_part problem.now part ≡ true) choice.now.parts) }
@@ -159,7 +160,7 @@ fn check_parts(problem: &Problem, choice: &Choice, scratch: &mut Scratch) -> Res
 /// The first part whose tree doesn't prove its bound.
 fn first_unproved(problem: &Problem, parts: &[Part], scratch: &mut Scratch) -> Option<u32>
     requires made { IsFor problem.now scratch.old }
-    requires fit { All (PartFits (length problem.now.items) (length problem.now.lines)) parts.now }
+    requires in_range { All (IsPartInRange (length problem.now.items) (length problem.now.lines)) parts.now }
     requires few { length parts.now ≤ 1024 }
     ensures some { IfSome result (λ k. FirstFails (proves_part problem.now) parts.now k) }
     ensures none { IfNone result (All (λ part. proves_part problem.now part ≡ true) parts.now) }
@@ -182,7 +183,7 @@ fn first_not_lean(
 ) -> Option<u32>
     requires made { IsFor problem.now scratch.old }
     requires set { ArePlaces problem.now set.now }
-    requires fit { All (PartFits (length problem.now.items) (length problem.now.lines)) parts.now }
+    requires in_range { All (IsPartInRange (length problem.now.items) (length problem.now.lines)) parts.now }
     requires few { length parts.now ≤ 1024 }
     ensures some { IfSome result (λ k. FirstFails (λ part. lean_part problem.now part (value_in_part problem.now set.now part)) parts.now k) }
     ensures none { IfNone result (All (λ part. lean_part problem.now part (value_in_part problem.now set.now part) ≡ true) parts.now) }
@@ -229,7 +230,7 @@ fn first_wasteful(
     requires idle { All (λ m. m ≡ Left) partial.old.marks }
     requires ready { IsReady problem.now kept.old }
     requires marks { length marks.now ≡ length problem.now.items }
-    requires fit { All (PartFits (length problem.now.items) (length problem.now.lines)) parts.now }
+    requires in_range { All (IsPartInRange (length problem.now.items) (length problem.now.lines)) parts.now }
     requires few { length parts.now ≤ 1024 }
     ensures some { IfSome result (λ k. FirstFails (λ part. lean_part problem.now part
         (value_of problem.now (filter (λ j. slice_index_or marks.now j false) part.members))) parts.now k) }
@@ -250,7 +251,7 @@ fn first_wasteful(
 
 /// The reasons of the budget.
 fn check_budget(problem: &Problem, budget: u64, choice: &Choice) -> Result<(), NotAllowed>
-    requires fits { Fits (length problem.now.items) (length problem.now.lines) choice.now }
+    requires in_range { IsInRange (length problem.now.items) (length problem.now.lines) choice.now }
     requires passed { Passed problem.now budget choice.now 8 }
     ensures ok { OnOk result (Allowed problem.now budget choice.now) }
     ensures err { IfErr result (λ reason. IsReason problem.now budget choice.now reason) }

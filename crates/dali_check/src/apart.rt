@@ -2,7 +2,7 @@ ghost use Rattle.std.specs.Prelude.{◌≡◌, ℕ, ◌<◌, ◌==◌, ◌↔◌
 ghost use Rattle.std.specs.List.{All, AllPairs, list_any, list_all};
 ghost use Rattle.dali_problem.specs.Clearing.{Clearing, item_at, effect};
 ghost use Rattle.dali_problem.specs.Limits.{AreEffects};
-ghost use Rattle.dali_tree.specs.Fits.{PartFits};
+ghost use Rattle.dali_tree.specs.Range.{IsPartInRange};
 ghost use Rattle.dali_check.specs.Sides.{has};
 ghost use Rattle.dali_check.specs.Parts.{some_has, ArePartition, changes, AreSeparate};
 
@@ -11,12 +11,19 @@ use dali_tree::Part;
 
 /// Whether each place is in one part. There is a mark for each place.
 pub(crate) fn are_partition(problem: &Problem, parts: &[Part], marks: &mut [bool]) -> bool
-    requires fit { All (PartFits (length problem.now.items) (length problem.now.lines)) parts.now }
+    requires in_range { All (IsPartInRange (length problem.now.items) (length problem.now.lines)) parts.now }
     requires marks { length marks.old ≡ length problem.now.items }
     ensures answer { IsTrue result ↔ ArePartition (length problem.now.items) parts.now }
     ensures marks { length marks.new ≡ length marks.old }
 {
-    places_apart(parts, marks) && all_marked(marks)
+    none_empty(parts) && places_apart(parts, marks) && all_marked(marks)
+}
+
+/// Whether each part has a member.
+fn none_empty(parts: &[Part]) -> bool
+    ensures { IsTrue result ↔ All (λ part. 0 < length part.members) parts.now }
+{
+    parts.iter().all(|part| !part.members.is_empty())
 }
 
 /// Whether no place is in two parts. Where that is so, the places of all parts are marked.
@@ -71,7 +78,7 @@ pub(crate) fn mark_all(numbers: &[u32], marks: &mut [bool])
 
 /// Whether no line is changed by two parts. There is a mark for each line.
 pub(crate) fn are_separate(problem: &Problem, parts: &[Part], marks: &mut [bool]) -> bool
-    requires fit { All (PartFits (length problem.now.items) (length problem.now.lines)) parts.now }
+    requires in_range { All (IsPartInRange (length problem.now.items) (length problem.now.lines)) parts.now }
     requires marks { length marks.old ≡ length problem.now.lines }
     ensures answer { IsTrue result ↔ AreSeparate problem.now parts.now }
     ensures marks { length marks.new ≡ length marks.old }

@@ -3,8 +3,9 @@ ghost use Rattle.std.specs.List.{All};
 ghost use Rattle.dali_problem.specs.declared.mark.Mark.TheVariants.{Undecided, Chosen, Left};
 ghost use Rattle.dali_problem.specs.Partial.{mark};
 ghost use Rattle.dali_problem.specs.Kept.{IsOf};
-ghost use Rattle.dali_tree.specs.Fits.{PartFits, lam_fits, tree_fits};
-ghost use Rattle.dali_check.specs.Ends.{ends_fit, lean_ends, tight_ends};
+ghost use Rattle.dali_tree.specs.Range.{lam_in_range, tree_in_range, IsPartInRange};
+ghost use Rattle.dali_check.specs.Ends.{lean_ends, tight_ends};
+ghost use Rattle.dali_tree.specs.Ends.{ends_in_range};
 ghost use Rattle.dali_check.specs.Lean.{is_finished, is_led, is_tight, lean_tree, tight_tree, lean_part};
 ghost use Rattle.dali_check.specs.Room.{IsReady, IsFor};
 
@@ -27,7 +28,7 @@ struct Claim {
 /// Whether the part is lean, where `value` is what its chosen places are worth, in centavos. Takes no memory.
 pub fn lean(problem: &Problem, part: &Part, value: u64, scratch: &mut Scratch) -> bool
     requires made { IsFor problem.now scratch.old }
-    requires fits { PartFits (length problem.now.items) (length problem.now.lines) part.now }
+    requires in_range { IsPartInRange (length problem.now.items) (length problem.now.lines) part.now }
     ensures answer { result ≡ lean_part problem.now part.now value }
     ensures made { IsFor problem.now scratch.new }
 {
@@ -51,7 +52,7 @@ pub(crate) fn lean_with(
     requires of { IsOf problem.now partial.old }
     requires idle { All (λ m. m ≡ Left) partial.old.marks }
     requires ready { IsReady problem.now kept.old }
-    requires fits { PartFits (length problem.now.items) (length problem.now.lines) part.now }
+    requires in_range { IsPartInRange (length problem.now.items) (length problem.now.lines) part.now }
     ensures answer { result ≡ lean_part problem.now part.now value }
     ensures of { IsOf problem.now partial.new }
     ensures idle { All (λ m. m ≡ Left) partial.new.marks }
@@ -88,7 +89,7 @@ fn node(
 ) -> bool
     requires of { IsOf problem.now partial.old }
     requires ready { IsReady problem.now kept.old }
-    requires fits { IsTrue (tree_fits (length problem.now.items) (length problem.now.lines) tree.now) }
+    requires in_range { IsTrue (tree_in_range (length problem.now.items) (length problem.now.lines) tree.now) }
     ensures answer { result ≡ lean_tree problem.now claim.bound claim.value tree.now partial.old.marks }
     ensures tight { IsTrue result → tight.new ≡ (tight.old || tight_tree problem.now claim.bound tree.now partial.old.marks) }
     ensures of { IsOf problem.now partial.new }
@@ -114,7 +115,7 @@ fn end(
 ) -> bool
     requires of { IsOf problem.now partial.old }
     requires ready { IsReady problem.now kept.old }
-    requires fits { IsTrue (ends_fit (length problem.now.items) (length problem.now.lines) end.now) }
+    requires in_range { IsTrue (ends_in_range (length problem.now.items) (length problem.now.lines) end.now) }
     ensures answer { result ≡ lean_ends problem.now claim.bound claim.value end.now partial.old.marks }
     ensures tight { IsTrue result → tight.new ≡ (tight.old || tight_ends problem.now claim.bound end.now partial.old.marks) }
     ensures of { IsOf problem.now partial.new }
@@ -173,7 +174,7 @@ fn side(
 ) -> bool
     requires of { IsOf problem.now partial.old }
     requires ready { IsReady problem.now kept.old }
-    requires fits { IsTrue (tree_fits (length problem.now.items) (length problem.now.lines) tree.now) }
+    requires in_range { IsTrue (tree_in_range (length problem.now.items) (length problem.now.lines) tree.now) }
     requires undecided { mark partial.old.marks place ≡ Undecided }
     ensures answer { result
         ≡ lean_tree problem.now claim.bound claim.value tree.now (slice_set partial.old.marks place (if chosen then Chosen else Left)) }
@@ -201,7 +202,7 @@ fn bound_holds(
 ) -> bool
     requires of { IsOf problem.now partial.now }
     requires ready { IsReady problem.now kept.old }
-    requires fits { IsTrue (lam_fits (length problem.now.lines) lam.now) }
+    requires in_range { IsTrue (lam_in_range (length problem.now.lines) lam.now) }
     ensures answer { result ≡ is_finished problem.now claim.value lam.now partial.now.marks }
     ensures tight { tight.new ≡ (tight.old || is_tight problem.now claim.bound lam.now partial.now.marks) }
     ensures ready { IsReady problem.now kept.new }
@@ -224,7 +225,7 @@ fn branch_holds(
     requires of { IsOf problem.now partial.now }
     requires ready { IsReady problem.now kept.old }
     requires place { place < length problem.now.items }
-    requires fits { IsTrue (lam_fits (length problem.now.lines) lam.now) }
+    requires in_range { IsTrue (lam_in_range (length problem.now.lines) lam.now) }
     ensures answer { result ≡ is_led problem.now claim.bound lam.now partial.now.marks place }
     ensures undecided { IsTrue result → mark partial.now.marks place ≡ Undecided }
     ensures ready { IsReady problem.now kept.new }

@@ -6,9 +6,10 @@ ghost use Rattle.dali_problem.specs.Limits.{Within};
 ghost use Rattle.dali_problem.specs.Rest.{IsPart};
 ghost use Rattle.dali_problem.specs.Partial.{mark};
 ghost use Rattle.dali_problem.specs.Kept.{IsOf};
-ghost use Rattle.dali_tree.specs.Fits.{PartFits, lam_fits, tree_fits};
+ghost use Rattle.dali_tree.specs.Range.{lam_in_range, tree_in_range, IsPartInRange};
 ghost use Rattle.dali_check.specs.Proves.{closes, proves_tree, proves_part};
-ghost use Rattle.dali_check.specs.Ends.{ends_fit, proves_ends};
+ghost use Rattle.dali_check.specs.Ends.{proves_ends};
+ghost use Rattle.dali_tree.specs.Ends.{ends_in_range};
 ghost use Rattle.dali_check.specs.Room.{IsFor};
 
 use crate::members::{enter, leave};
@@ -23,7 +24,7 @@ use dali_tree::{End, Lam, Part, Tree};
 /// Where it does, no feasible set of the part's members is worth more than the bound, in centavos.
 pub fn proves(problem: &Problem, part: &Part, scratch: &mut Scratch) -> bool
     requires made { IsFor problem.now scratch.old }
-    requires fits { PartFits (length problem.now.items) (length problem.now.lines) part.now }
+    requires in_range { IsPartInRange (length problem.now.items) (length problem.now.lines) part.now }
     ensures answer { result ≡ proves_part problem.now part.now }
     ensures bound { IsTrue result → (t : List ℕ) → ArePlaces problem.now t → IsFeasible problem.now t → IsPart t part.now.members →
         value_of problem.now t ≤ part.now.bound }
@@ -54,7 +55,7 @@ fn node(
 ) -> bool
     requires of { IsOf problem.now partial.old }
     requires point { length point.old ≡ length problem.now.lines }
-    requires fits { IsTrue (tree_fits (length problem.now.items) (length problem.now.lines) tree.now) }
+    requires in_range { IsTrue (tree_in_range (length problem.now.items) (length problem.now.lines) tree.now) }
     ensures answer { result ≡ proves_tree problem.now bound tree.now partial.old.marks }
     ensures of { IsOf problem.now partial.new }
     ensures marks { partial.new.marks ≡ partial.old.marks }
@@ -72,7 +73,7 @@ fn node(
 fn end(problem: &Problem, bound: u64, end: &End, partial: &mut Partial, point: &mut Point) -> bool
     requires of { IsOf problem.now partial.old }
     requires point { length point.old ≡ length problem.now.lines }
-    requires fits { IsTrue (ends_fit (length problem.now.items) (length problem.now.lines) end.now) }
+    requires in_range { IsTrue (ends_in_range (length problem.now.items) (length problem.now.lines) end.now) }
     ensures answer { result ≡ proves_ends problem.now bound end.now partial.old.marks }
     ensures of { IsOf problem.now partial.new }
     ensures marks { partial.new.marks ≡ partial.old.marks }
@@ -107,7 +108,7 @@ fn side(
 ) -> bool
     requires of { IsOf problem.now partial.old }
     requires point { length point.old ≡ length problem.now.lines }
-    requires fits { IsTrue (tree_fits (length problem.now.items) (length problem.now.lines) tree.now) }
+    requires in_range { IsTrue (tree_in_range (length problem.now.items) (length problem.now.lines) tree.now) }
     requires undecided { mark partial.old.marks place ≡ Undecided }
     ensures answer { result ≡ proves_tree problem.now bound tree.now (slice_set partial.old.marks place (if chosen then Chosen else Left)) }
     ensures of { IsOf problem.now partial.new }
@@ -125,7 +126,7 @@ fn side(
 fn closes(problem: &Problem, bound: u64, lam: &Lam, partial: &Partial, point: &mut Point) -> bool
     requires of { IsOf problem.now partial.now }
     requires point { length point.old ≡ length problem.now.lines }
-    requires fits { IsTrue (lam_fits (length problem.now.lines) lam.now) }
+    requires in_range { IsTrue (lam_in_range (length problem.now.lines) lam.now) }
     ensures answer { result ≡ closes problem.now bound lam.now partial.now.marks }
     ensures point { length point.new ≡ length point.old }
 {

@@ -1,11 +1,10 @@
 ghost use Rattle.std.specs.Prelude.{◌≡◌, ℕ, ◌<◌, false, ◌&&◌, not, length};
-ghost use Rattle.std.specs.List.{All, list_all};
 ghost use Rattle.dali_problem.specs.Partial.{mark, is_undecided};
 ghost use Rattle.dali_problem.specs.Rules.{is_short, is_barred, is_needed, is_safe, all_below};
 ghost use Rattle.dali_problem.specs.Kept.{IsOf};
 ghost use Rattle.dali_check.specs.Lean.{is_reduced, is_open};
 
-use dali_problem::{Effect, Partial, Problem};
+use dali_problem::{Partial, Problem};
 
 /// Whether no fix rule holds for any undecided member, with any line. Costs what the undecided members touch.
 #[tactic(auto, unfolding(crate::specs::Lean::is_reduced))]
@@ -81,28 +80,6 @@ fn leaves_lines(problem: &Problem, partial: &Partial, place: u32) -> bool
     requires long { (l : ℕ) → l < length problem.now.lines → is_short problem.now partial.now.marks l ≡ false }
     ensures { result ≡ all_below (λ l. not (is_barred problem.now partial.now.marks place l) && not (is_needed problem.now partial.now.marks place l)) (length problem.now.lines) }
 {
-    all_quiet(problem, partial, place, problem.effects(place))
-}
-
-/// Whether neither side of a place makes a line of these effects short.
-fn all_quiet(problem: &Problem, partial: &Partial, place: u32, effects: &[Effect]) -> bool
-    requires of { IsOf problem.now partial.now }
-    requires place { place < length problem.now.items }
-    requires lines { All (λ e. e.line < length problem.now.lines) effects.now }
-    ensures { result ≡ list_all (λ e. not (is_barred problem.now partial.now.marks place e.line) && not (is_needed problem.now partial.now.marks place e.line)) effects.now }
-{
-    effects
-        .iter()
-        .all(|effect| is_quiet(problem, partial, place, effect))
-}
-
-/// Whether neither side of a place makes the line of an effect short.
-fn is_quiet(problem: &Problem, partial: &Partial, place: u32, effect: &Effect) -> bool
-    requires of { IsOf problem.now partial.now }
-    requires place { place < length problem.now.items }
-    requires line { effect.now.line < length problem.now.lines }
-    ensures { result ≡ (not (is_barred problem.now partial.now.marks place effect.now.line) && not (is_needed problem.now partial.now.marks place effect.now.line)) }
-{
-    let line = effect.line;
-    !partial.is_barred(problem, place, line) && !partial.is_needed(problem, place, line)
+    let _items = problem.items();
+    partial.is_quiet(problem, place)
 }

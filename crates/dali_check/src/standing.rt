@@ -7,7 +7,7 @@ ghost use Rattle.dali_problem.specs.Clearing.{Clearing};
 ghost use Rattle.dali_problem.specs.Limits.{Within};
 ghost use Rattle.dali_problem.specs.Partial.{mark, is_undecided, is_chosen};
 ghost use Rattle.dali_problem.specs.Kept.{IsOf};
-ghost use Rattle.dali_tree.specs.Fits.{lam_fits};
+ghost use Rattle.dali_tree.specs.Range.{lam_in_range};
 ghost use Rattle.dali_lagrange.specs.KeptSum.{IsSumOf};
 ghost use Rattle.dali_check.specs.Lean.{reaches, nearness, is_nearest, is_worked, is_tight};
 ghost use Rattle.dali_check.specs.Room.{IsReady, StandsFor, as_member};
@@ -22,7 +22,7 @@ use dali_tree::Lam;
 pub(crate) fn take_on(problem: &Problem, lam: &Lam, partial: &Partial, kept: &mut Kept)
     requires of { IsOf problem.now partial.now }
     requires ready { IsReady problem.now kept.old }
-    requires fits { IsTrue (lam_fits (length problem.now.lines) lam.now) }
+    requires in_range { IsTrue (lam_in_range (length problem.now.lines) lam.now) }
     ensures ready { IsReady problem.now kept.new }
     ensures stands { StandsFor problem.now lam.now partial.now.marks kept.new }
 {

@@ -2,9 +2,9 @@ ghost use Rattle.std.specs.Prelude.{◌≡◌, ℕ, ◌+◌, ◌*◌, ◌^◌, �
 ghost use Rattle.std.specs.List.{All, filter};
 ghost use Rattle.dali_problem.specs.Feasible.{value_of};
 ghost use Rattle.dali_problem.specs.Limits.{IsProblem};
-ghost use Rattle.dali_tree.specs.Fits.{AreRising, PartFits};
+ghost use Rattle.dali_tree.specs.Fits.{AreRising};
 ghost use Rattle.dali_tree.specs.Tree.{branch_count};
-ghost use Rattle.dali_check.specs.Ends.{end_count};
+ghost use Rattle.dali_tree.specs.Ends.{end_count};
 ghost use Rattle.dali_check.specs.Sides.{has};
 ghost use Rattle.dali_check.specs.Parts.{bound_of, branchings_of};
 
@@ -61,7 +61,6 @@ fn after_end(end: &End, left: u64) -> Option<u64>
 
 /// The sum of the bounds, in centavos.
 pub(crate) fn bound_of(parts: &[Part]) -> u128
-    requires { All (λ part. part.bound ≤ 16384 * 10 ^ 15) parts.now }
     ensures { result ≡ bound_of parts.now }
 {
     let mut total = 0;

@@ -11,14 +11,14 @@ returns-in-Err-check_parts-clause-err c = c.in-Err-check_parts.ensures.err c.arg
 
 pub returns-in-Ok-check_budget-clause-bound : goal.returns-in-Ok-check_budget-clause-bound
 returns-in-Ok-check_budget-clause-bound c t places feasible =
-    whole_bounds c.args.problem.now c.args.choice.now t c.items-items.ensures.bounds c.requires.fits c.in-Ok.ensures.whole
+    whole_bounds c.args.problem.now c.args.choice.now t c.items-items.ensures.bounds c.requires.in_range c.in-Ok.ensures.whole
     c.in-Ok-check_parts.ensures.proved places feasible
 
 pub returns-in-Ok-check_budget-clause-best : goal.returns-in-Ok-check_budget-clause-best
 returns-in-Ok-check_budget-clause-best c same = record {
-  places = record { rising = c.requires.fits.set.rising; in_range = c.requires.fits.set.in_range };
+  places = record { rising = c.requires.in_range.set.rising; in_range = c.requires.in_range.set.in_range };
   feasible = c.in-Ok.ensures.whole.feasible;
   most = (λ t places feasible. subst (λ (n : ℕ). value_of c.args.problem.now t ≤ n) (sym same)
-      (whole_bounds c.args.problem.now c.args.choice.now t c.items-items.ensures.bounds c.requires.fits c.in-Ok.ensures.whole
+      (whole_bounds c.args.problem.now c.args.choice.now t c.items-items.ensures.bounds c.requires.in_range c.in-Ok.ensures.whole
       c.in-Ok-check_parts.ensures.proved places feasible));
 }

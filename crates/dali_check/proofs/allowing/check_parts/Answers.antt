@@ -5,17 +5,17 @@ use Rattle.dali_check.specs.Proves.{proves_part}
 use Rattle.dali_check.specs.Lean.{lean_part}
 use Rattle.dali_check.specs.Parts.{value_in_part}
 use Rattle.dali_check.specs.Allowed.{FirstFails}
-use Rattle.dali_check.proofs.Firsts.{parts_few}
+use Rattle.dali_check.proofs.Counting.{parts_few}
 use Rattle.dali_check.proofs.Reasons.{at_not_lean, parts_passed}
 use Rattle.dali_check.proofs.allowing.check_parts.Goals as goal
 
 pub first_unproved-requires-clause-few : goal.first_unproved-requires-clause-few
 first_unproved-requires-clause-few c =
-    subst (λ (ps : List Part). length ps ≤ 1024) (sym c.as_slice-parts.ensures) (parts_few c.args.problem.now c.args.choice.now c.items-items.ensures.bounds c.requires.fits)
+    subst (λ (ps : List Part). length ps ≤ 1024) (sym c.as_slice-parts.ensures) (parts_few c.args.problem.now c.args.choice.now c.items-items.ensures.bounds c.requires.in_range c.requires.whole)
 
 pub first_not_lean-requires-clause-few : goal.first_not_lean-requires-clause-few
 first_not_lean-requires-clause-few c =
-    subst (λ (ps : List Part). length ps ≤ 1024) (sym c.as_slice-parts.ensures) (parts_few c.args.problem.now c.args.choice.now c.items-items.ensures.bounds c.requires.fits)
+    subst (λ (ps : List Part). length ps ≤ 1024) (sym c.as_slice-parts.ensures) (parts_few c.args.problem.now c.args.choice.now c.items-items.ensures.bounds c.requires.in_range c.requires.whole)
 
 pub returns-in-Some-first_not_lean-clause-err : goal.returns-in-Some-first_not_lean-clause-err
 returns-in-Some-first_not_lean-clause-err c b =

@@ -3,7 +3,7 @@ use Rattle.std.specs.Int.Signed.{lt_z}
 use Rattle.std.proofs.lemmas.Int.{ints}
 use mir.Val.{to_z, of_z}
 use mir.Syntax.{w128}
-use Rattle.dali_tree.specs.Fits.{lam_fits}
+use Rattle.dali_tree.specs.Range.{lam_in_range}
 use Rattle.dali_lagrange.specs.Multipliers.{multiplier}
 use Rattle.dali_check.specs.Proves.{closes}
 use Rattle.dali_check.proofs.Points.{multipliers_of, sum_at}
@@ -11,7 +11,7 @@ use Rattle.dali_check.proofs.proving.closes.Goals as goal
 
 pub load-requires : goal.load-requires
 load-requires c = multipliers_of (length c.args.point.now) c.args.lam.now
-    (ap (λ n. lam_fits n c.args.lam.now) c.requires.point ∙ c.requires.fits)
+    (ap (λ n. lam_in_range n c.args.lam.now) c.requires.point ∙ c.requires.in_range)
 
 pub returns-clause-answer : goal.returns-clause-answer
 unfolding closes

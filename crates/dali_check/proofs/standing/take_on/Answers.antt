@@ -3,4 +3,4 @@ use Rattle.dali_check.proofs.Points.{multipliers_of}
 use Rattle.dali_check.proofs.standing.take_on.Goals as goal
 
 pub load-requires-clause-lam : goal.load-requires-clause-lam
-load-requires-clause-lam c = multipliers_of (length c.args.problem.now.lines) c.args.lam.now c.requires.fits
+load-requires-clause-lam c = multipliers_of (length c.args.problem.now.lines) c.args.lam.now c.requires.in_range

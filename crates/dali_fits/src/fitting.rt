@@ -2,7 +2,8 @@ ghost use Rattle.std.specs.Prelude.{◌≡◌, ℕ, ◌+◌, ◌<◌, ◌↔◌,
 ghost use Rattle.std.specs.List.{All, AllPairs, list_all};
 ghost use Rattle.dali_tree.specs.Tree.{branch_depth};
 ghost use Rattle.dali_tree.specs.Fits.{fix_fits, multiplier_fits, is_rising, lam_fits, tree_fits, AreRising, PartFits, first_member, Fits};
-ghost use Rattle.dali_check.specs.Ends.{ends_fit, end_depth};
+ghost use Rattle.dali_tree.specs.Range.{IsInRange};
+ghost use Rattle.dali_tree.specs.Ends.{ends_fit, end_depth};
 
 use dali_problem::Problem;
 use dali_tree::{Choice, End, Fix, Part, Tree};
@@ -22,10 +23,16 @@ const MOST_MULTIPLIER: u64 = 1 << 44;
 /// Whether a choice fits a problem: all that it names is in range, and its lists rise. Takes no memory, and goes no
 /// deeper into a tree than a choice that fits.
 pub fn fits(problem: &Problem, choice: &Choice) -> bool
-    ensures { IsTrue result ↔ Fits (length problem.now.items) (length problem.now.lines) choice.now }
+    ensures answer { IsTrue result ↔ Fits (length problem.now.items) (length problem.now.lines) choice.now }
+    ensures in_range { IsTrue result → IsInRange (length problem.now.items) (length problem.now.lines) choice.now }
 {
-    let items = problem.items();
-    let lines = problem.lines();
+    choice_fits(choice, problem.items(), problem.lines())
+}
+
+/// The same for so many items and lines.
+fn choice_fits(choice: &Choice, items: u32, lines: u32) -> bool
+    ensures { IsTrue result ↔ Fits items lines choice.now }
+{
     let parts = choice.parts.as_slice();
     rises(choice.places.as_slice(), items) && all_fit(parts, items, lines) && firsts_rise(parts)
 }
