@@ -1,0 +1,10 @@
+//! A plain slow program beside the definitions: it goes through all sets of up to ten items of a clearing problem by
+//! masks, with no sums kept and no rule used.
+//!
+//! The promise to the crates above: each answer is its definition, and `best_of` is the greatest value of any feasible set.
+//! A mask is a number whose bit j stands for place j. Lines and places are counted from 0, values are in centavos.
+#![tactic(auto)]
+
+mod masks;
+
+pub use masks::{best_of, is_feasible_mask, places_of_mask, value_of_mask};
