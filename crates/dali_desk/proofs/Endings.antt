@@ -7,7 +7,7 @@ use Rattle.dali_outside.specs.Outside.{Feed}
 use Rattle.dali_line.specs.Line.{is_line}
 use Rattle.dali_line.specs.Commands.{commands, ended_commands}
 use Rattle.dali_line.specs.Lines.{Reader, FirstIsLong, IsLong, MOST_OF_COMMAND, MOST_OF_FILE, BreaksOff, FindsLong, PassesLimit, WantsMemory, reached}
-use Rattle.dali_desk.specs.DayRun.{IsLongAt, ShowsLong, ShowsNoLong, BreaksAfter, LongAfter, PastLimit}
+use Rattle.dali_desk.specs.DayRun.{IsLongAt, ShowsLong, ShowsNoLong, BreaksAfter, LongAfter, PastLimit, StopsWithin}
 use Rattle.dali_desk.specs.Midday.{GoesOn, Reads}
 use Rattle.dali_desk.proofs.ReadingOn.{going}
 use Rattle.dali_desk.proofs.Long.{IsBehind, behind, at_next, none_past_one, one_command_more, one_command_after}
@@ -102,6 +102,12 @@ found_long told old given reader new feed after reads running t stop =
       ];
     }
 
-pub wants_memory : (told : Bool) (old : Feed) (given : List (List ℕ)) (reader new : Reader) (feed after : Feed) → (reads : Reads told old given reader feed) →
-    (stop : WantsMemory told (reached reader feed) (reached new after)) → length (reads.got ++ stop.got) ≤ MOST_OF_FILE
-wants_memory told old given reader new feed after reads stop = omega (arith, reads.taken, stop.within, length-append reads.got stop.got)
+-- memory was wanted for the next command
+pub wants_memory : (told : Bool) (old : Feed) (given : List (List ℕ)) (reader new : Reader) (feed after : Feed) → (reads : Reads told old given reader feed) → reader.over ≡ false →
+    (stop : WantsMemory told (reached reader feed) (reached new after)) → StopsWithin (reads.got ++ stop.got) given
+wants_memory told old given reader new feed after reads running stop =
+    let on = going told old given reader feed reads running in
+    record {
+      limit = omega (arith, reads.taken, stop.within, length-append reads.got stop.got);
+      first = record { rest = commands (reader.pending ++ stop.got); parts = on.whole stop.got };
+    }

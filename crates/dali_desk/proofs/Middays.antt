@@ -15,9 +15,9 @@ use Rattle.dali_desk.specs.declared.status.Status.{Status}
 use Rattle.dali_desk.specs.declared.status.Status.TheVariants.{Done, Usage, ReadFault, PrintFault, DiskFault, LongLine, LongFile, OutOfMemory}
 use Rattle.dali_desk.specs.TextOf.{answer_to, texts, text_of, plain_entry, plain_history}
 use Rattle.dali_desk.specs.DayRun.{TakenAt, TakesDay, PrintsDay, PrintsFront, DayRun}
-use Rattle.dali_desk.specs.Midday.{Reads, Quiet, Midday, Takes, BreaksOffIn, Answers, status_of_end}
+use Rattle.dali_desk.specs.Midday.{Reads, Quiet, Midday, TakesCommand, PrintsInPart, Answers, status_of_end}
 use Rattle.dali_desk.proofs.Printing.{front_behind}
-use Rattle.dali_desk.proofs.ReadingOn.{reads_start, reads_line, reads_first, all_read, all_over, moves_on}
+use Rattle.dali_desk.proofs.ReadingOn.{reads_start, reads_line, reads_first, reads_within, without_last, all_read, all_over, moves_on}
 use Rattle.dali_desk.proofs.Endings.{all_short, broken_off, past_limit, found_long, wants_memory}
 use Rattle.dali_desk.proofs.Days.{texts_more, state_more, plain_more, quiet_start, quiet_on, ended}
 
@@ -43,7 +43,7 @@ text_more lines line machine is =
 -- one more command was taken
 pub midday_more : (s t : Bool) (old : Feed) (before : Sight) (reader new : Reader) (machine next : Machine) (feed after : Feed) (sight then : Sight) (line : List ℕ) →
     Midday s t old before reader machine feed sight → reader.over ≡ false → Gives s line reader new feed after → feed.faults ≤ after.faults → IsTrue (is_line line) →
-    Quiet t sight then → Takes t (plain_entry line) machine next sight then → Midday s t old before new next after then
+    Quiet t sight then → TakesCommand t (plain_entry line) machine next sight then → Midday s t old before new next after then
 midday_more s t old before reader new machine next feed after sight then line day running gives faults is quiet takes = record {
   lines = day.lines ++ line ∷ [];
   are = All-push (λ l. IsTrue (is_line l)) day.lines line day.are is;
@@ -116,7 +116,7 @@ day_stopped s t old before reader new machine feed after sight ends.OutOfMemory 
       taken = day.reads.got ++ stop.got;
       moved = moves_on old.left day.reads.got feed.left stop.got after.left (day.reads.moved told) (stop.moved told);
       first = reads_first s old day.lines reader feed day.reads told;
-      at = wants_memory s old day.lines reader new feed after day.reads stop;
+      at = wants_memory s old day.lines reader new feed after day.reads running stop;
     }) day.text
 
 -- memory was wanted for a command that was read
@@ -130,14 +130,14 @@ day_wants s t old before reader new machine feed after sight then line day runni
       taken = reads.got;
       moved = reads.moved told;
       first = reads_first s old day.lines reader feed day.reads told;
-      at = omega (arith, reads.taken, reads.within);
+      at = without_last reads.got day.lines line (reads_within s old (day.lines ++ line ∷ []) new after reads);
     })
     (λ told. same told ∙ day.text told)
 
 -- a reply could not be printed
 pub day_unprinted : (s t : Bool) (old : Feed) (before : Sight) (reader new : Reader) (machine : Machine) (feed after : Feed) (sight then : Sight) (line : List ℕ) →
     Midday s t old before reader machine feed sight → reader.over ≡ false → Gives s line reader new feed after → feed.faults ≤ after.faults → IsTrue (is_line line) →
-    Quiet t sight then → BreaksOffIn t (plain_entry line) machine sight then → DayRun s t old after before then PrintFault
+    Quiet t sight then → PrintsInPart t (plain_entry line) machine sight then → DayRun s t old after before then PrintFault
 day_unprinted s t old before reader new machine feed after sight then line day running gives faults is quiet breaks =
     let reads = reads_line s old day.lines reader new feed after line day.reads running gives in
     ended s t old after before then PrintFault tt (λ e. absurd (Prim.cc)) (λ e. omega (arith, breaks.rose, day.quiet.goes.print)) (omega (arith, day.faults, faults)) (quiet_on t before sight then day.quiet quiet)
@@ -146,7 +146,7 @@ day_unprinted s t old before reader new machine feed after sight then line day r
       taken = reads.got;
       moved = reads.moved told;
       first = reads_first s old (day.lines ++ line ∷ []) new after reads told;
-      at = omega (arith, reads.taken, reads.within);
+      at = reads_within s old (day.lines ++ line ∷ []) new after reads;
     })
     (λ told. subst (λ text. PrintsFront text before then) (sym (text_more day.lines line machine day.state))
     (front_behind (text_of (plain_history day.lines)) (answer_to machine (plain_entry line)) before sight then (day.text told) (breaks.front told)))
@@ -155,7 +155,7 @@ day_unprinted s t old before reader new machine feed after sight then line day r
 pub day_unopened : (s t : Bool) (feed : Feed) (sight : Sight) → DayRun s t feed feed sight sight OutOfMemory
 day_unopened s t feed sight =
     ended s t feed feed sight sight OutOfMemory tt (λ is. absurd (Prim.cc)) (λ is. absurd (Prim.cc)) (omega arith) (quiet_start t sight) [] (All-nil (λ line. IsTrue (is_line line)))
-    (λ told. record { taken = []; moved = refl; first = record { rest = commands feed.left; parts = refl }; at = omega arith })
+    (λ told. record { taken = []; moved = refl; first = record { rest = commands feed.left; parts = refl }; at = record { limit = omega arith; first = record { rest = []; parts = refl } } })
     (λ told. sym (append-nil sight.printed))
 
 -- a reader that gave an answer that one that is over doesn't give isn't over

@@ -1,7 +1,7 @@
 use Rattle.std.proofs.Common.{◌≡◌, ◌∙◌, ℕ, ◌≤◌, Bool, true, false, List, [], ◌∷◌, ◌++◌, take, drop, refl, sym, ap, subst, arith, append_assoc, append-nil}
 use Rattle.std.proofs.lemmas.List.{take-append-drop}
 use Rattle.dali_outside.specs.Outside.{Sight, Prints, Goes}
-use Rattle.dali_desk.specs.DayRun.{Begins, PrintsFront}
+use Rattle.dali_desk.specs.DayRun.{IsFront, PrintsFront}
 
 -- of a text this was printed since old, and this is still to come
 pub record SoFar (text later : List ℕ) (old new : Sight) : Type 0 where

@@ -3,7 +3,7 @@ use Rattle.std.specs.Prelude.{IsTrue}
 use Rattle.dali_outside.specs.Outside.{Feed}
 use Rattle.dali_line.specs.Commands.{commands, ended_commands}
 use Rattle.dali_line.specs.Lines.{Reader, Gives, Ends, MeetsLine, MeetsLast, MeetsEnd, MOST_OF_FILE, reached}
-use Rattle.dali_desk.specs.DayRun.{Begins, ReadsAll}
+use Rattle.dali_desk.specs.DayRun.{IsFront, ReadsAll, StopsWithin}
 use Rattle.dali_desk.specs.Midday.{GoesOn, IsOver, IsFar, Reads}
 
 -- a cut of the bytes got, of what is pending and of whatever follows, after one more line
@@ -78,9 +78,9 @@ reads_line told old given reader new feed after line reads running gives =
     ]
 
 -- the lines given are the first commands of the input
-pub reads_first : (told : Bool) (old : Feed) (given : List (List ℕ)) (reader : Reader) (feed : Feed) → Reads told old given reader feed → IsTrue told → Begins given (commands old.left)
+pub reads_first : (told : Bool) (old : Feed) (given : List (List ℕ)) (reader : Reader) (feed : Feed) → Reads told old given reader feed → IsTrue told → IsFront given (commands old.left)
 reads_first told old given reader feed reads t =
-    elim (reader.over) as (λ b. reader.over ≡ b → Begins given (commands old.left)) [
+    elim (reader.over) as (λ b. reader.over ≡ b → IsFront given (commands old.left)) [
       | true ↦ λ is.
           let done = over told old given reader feed reads is in
           record { rest = []; parts = ap commands (reads.moved t ∙ ap (λ xs. reads.got ++ xs) (done.end t) ∙ append-nil reads.got) ∙ done.whole ∙ sym (append-nil given) }
@@ -105,3 +105,23 @@ pub all_over : (told : Bool) (old : Feed) (given : List (List ℕ)) (reader : Re
 all_over told old given reader feed reads ended t =
     let done = over told old given reader feed reads ended in
     record { end = done.end t; limit = omega (arith, reads.taken, reads.within); all = sym done.whole }
+
+-- the lines given are the first commands of the bytes got
+pub reads_within : (told : Bool) (old : Feed) (given : List (List ℕ)) (reader : Reader) (feed : Feed) → (reads : Reads told old given reader feed) → StopsWithin reads.got given
+reads_within told old given reader feed reads = record {
+  limit = omega (arith, reads.taken, reads.within);
+  first = elim (reader.over) as (λ b. reader.over ≡ b → IsFront given (commands reads.got)) [
+    | true ↦ λ is. record { rest = []; parts = (over told old given reader feed reads is).whole ∙ sym (append-nil given) }
+    | false ↦ λ is. record {
+      rest = commands (reader.pending ++ []);
+      parts = ap commands (sym (append-nil reads.got)) ∙ (going told old given reader feed reads is).whole [];
+    }
+  ] refl;
+}
+
+-- and so are the lines without the last one
+pub without_last : (got : List ℕ) (given : List (List ℕ)) (line : List ℕ) → StopsWithin got (given ++ line ∷ []) → StopsWithin got given
+without_last got given line stops = record {
+  limit = stops.limit;
+  first = record { rest = line ∷ stops.first.rest; parts = stops.first.parts ∙ append_assoc given (line ∷ []) stops.first.rest };
+}

@@ -8,8 +8,8 @@ use Rattle.dali_desk.specs.TextOf.{text_of, plain_history}
 use Rattle.dali_desk.specs.declared.status.Status.{Status}
 use Rattle.dali_desk.specs.declared.status.Status.TheVariants.{Done, Usage, ReadFault, PrintFault, DiskFault, LongLine, LongFile, OutOfMemory}
 
--- a list begins with this front
-pub record Begins {X : Type 0} (front whole : List X) : Type 0 where
+-- this list is a front of the whole one
+pub record IsFront {X : Type 0} (front whole : List X) : Type 0 where
   pub rest : List X
   pub parts : whole ≡ front ++ rest
 
@@ -17,9 +17,9 @@ pub record Begins {X : Type 0} (front whole : List X) : Type 0 where
 pub record PrintsFront (text : List ℕ) (old new : Sight) : Type 0 where
   pub went : List ℕ
   pub printed : new.printed ≡ old.printed ++ went
-  pub front : Begins went text
+  pub front : IsFront went text
 
--- the statuses of `day`
+-- the statuses of a `day` that doesn't open its journal
 abbrev pub EndsDay : Status → Type 0
 EndsDay Done = Unit {0}
 EndsDay Usage = ⊥
@@ -72,27 +72,42 @@ pub record PastLimit (taken : List ℕ) (lines : List (List ℕ)) : Type 0 where
   pub whole : lines ≡ ended_commands within
   pub none_long : ShowsNoLong taken
 
+-- the lines are the first commands of the bytes taken
+pub record StopsWithin (taken : List ℕ) (lines : List (List ℕ)) : Type 0 where
+  pub limit : length taken ≤ MOST_OF_FILE
+  pub first : IsFront lines (commands taken)
+
 -- which lines were taken when the status came, and what of the input had been taken then
 abbrev pub TakenAt : Status → List ℕ → List ℕ → List (List ℕ) → Type 0
 TakenAt Done taken left lines = ReadsAll taken left lines
+TakenAt Usage taken left lines = ⊥
 TakenAt ReadFault taken left lines = BreaksAfter taken lines
+TakenAt PrintFault taken left lines = StopsWithin taken lines
+TakenAt DiskFault taken left lines = ⊥
 TakenAt (LongLine k) taken left lines = LongAfter k taken left lines
 TakenAt LongFile taken left lines = PastLimit taken lines
-TakenAt _ taken left lines = length taken ≤ MOST_OF_FILE
+TakenAt OutOfMemory taken left lines = StopsWithin taken lines
 
 -- these bytes of the input were taken in the call, and these lines are its first commands
 pub record TakesDay (old new : Feed) (lines : List (List ℕ)) (status : Status) : Type 0 where
   pub taken : List ℕ
   pub moved : old.left ≡ taken ++ new.left
-  pub first : Begins lines (commands old.left)
+  pub first : IsFront lines (commands old.left)
   pub at : TakenAt status taken new.left lines
 
 -- what was printed when the status came: the whole text of the history, and after a print fault a front of it
 abbrev pub PrintsDay : Status → List ℕ → Sight → Sight → Type 0
+PrintsDay Done text old new = new.printed ≡ old.printed ++ text
+PrintsDay Usage text old new = ⊥
+PrintsDay ReadFault text old new = new.printed ≡ old.printed ++ text
 PrintsDay PrintFault text old new = PrintsFront text old new
-PrintsDay _ text old new = new.printed ≡ old.printed ++ text
+PrintsDay DiskFault text old new = ⊥
+PrintsDay (LongLine k) text old new = new.printed ≡ old.printed ++ text
+PrintsDay LongFile text old new = new.printed ≡ old.printed ++ text
+PrintsDay OutOfMemory text old new = new.printed ≡ old.printed ++ text
 
--- What a run of `day` does: it takes these lines as a legal history, and prints the history's text.
+-- What a run of `day` does that doesn't open its journal: it takes these lines as a legal history of edition 1, and prints
+-- the history's text.
 pub record DayRun (source_tells site_tells : Bool) (old new : Feed) (before after : Sight) (status : Status) : Type 0 where
   pub statuses : EndsDay status
   -- a fault comes only where its count rose
@@ -105,7 +120,7 @@ pub record DayRun (source_tells site_tells : Bool) (old new : Feed) (before afte
   pub legal : IsLegal (plain_history lines)
   pub input : IsTrue source_tells → TakesDay old new lines status
   pub text : IsTrue site_tells → PrintsDay status (text_of (plain_history lines)) before after
-  -- the disk isn't touched
+  -- the disk is as before, and nothing was synced
   pub disk : IsTrue site_tells → SameDisk before after
   pub syncs : after.syncs ≤ before.syncs
   -- where no count rose, the file is within its limit and no command has more than 200 bytes, it ends with Done or want of

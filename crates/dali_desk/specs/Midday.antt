@@ -24,6 +24,7 @@ pub record IsOver (told : Bool) (got : List ℕ) (given : List (List ℕ)) (left
   pub whole : commands got ≡ given
   pub end : IsTrue told → left ≡ []
 
+-- what the bytes got gave, by whether the reader is over
 abbrev pub IsFar : Bool → Bool → List ℕ → List (List ℕ) → List ℕ → List ℕ → Type 0
 IsFar told false got given pending left = GoesOn got given pending
 IsFar told true got given pending left = IsOver told got given left
@@ -51,28 +52,29 @@ pub record Midday (source_tells site_tells : Bool) (old : Feed) (before : Sight)
   pub reads : Reads source_tells old lines reader feed
   pub faults : old.faults ≤ feed.faults
   pub state : machine ≡ state_of (plain_history lines)
-  pub counted : machine.commands ≤ reader.given
+  pub counted : machine.commands ≡ reader.given
   pub quiet : Quiet site_tells before sight
   pub text : IsTrue site_tells → sight.printed ≡ before.printed ++ text_of (plain_history lines)
 
 -- a command was taken and its reply printed
-pub record Takes (told : Bool) (e : EntryRecord) (old new : Machine) (before after : Sight) : Type 0 where
+pub record TakesCommand (told : Bool) (e : EntryRecord) (old new : Machine) (before after : Sight) : Type 0 where
   pub next : new ≡ (step e.edition old e.line).next
   pub commands : new.commands ≡ old.commands + 1
   pub printed : IsTrue told → after.printed ≡ before.printed ++ answer_to old e
 
--- a command was taken, and of its reply a front printed
-pub record BreaksOffIn (told : Bool) (e : EntryRecord) (old : Machine) (before after : Sight) : Type 0 where
+-- a command was taken, and a front of its reply printed
+pub record PrintsInPart (told : Bool) (e : EntryRecord) (old : Machine) (before after : Sight) : Type 0 where
   pub front : IsTrue told → PrintsFront (answer_to old e) before after
   pub rose : Rose before.print_faults after.print_faults
 
 -- what taking one command came to
 abbrev pub AnswersAs : Bool → EntryRecord → Machine → Machine → Sight → Sight → Result Unit Status → Type 0
-AnswersAs told e old new before after (Ok u) = Takes told e old new before after
-AnswersAs told e old new before after (Err PrintFault) = BreaksOffIn told e old before after
+AnswersAs told e old new before after (Ok u) = TakesCommand told e old new before after
+AnswersAs told e old new before after (Err PrintFault) = PrintsInPart told e old before after
 AnswersAs told e old new before after (Err OutOfMemory) = IsTrue told → after.printed ≡ before.printed
 AnswersAs told e old new before after (Err status) = ⊥
 
+-- taking one command: the disk stays, and it came to this
 pub record Answers (told : Bool) (e : EntryRecord) (old new : Machine) (before after : Sight) (result : Result Unit Status) : Type 0 where
   pub quiet : Quiet told before after
   pub came : AnswersAs told e old new before after result

@@ -17,7 +17,8 @@ use std::alloc::Global;
 /// The edition of a day without a journal.
 const EDITION: u8 = 1;
 
-/// Takes the commands of the day file as they come from the source, and prints the reply to each.
+/// Takes the commands of the day file as they come from the source, and prints the reply to each. The journal isn't
+/// opened.
 pub(crate) fn take_day<S: Source, T: Site>(alloc: Global, source: &mut S, site: &mut T) -> Status
     ensures { DayRun S.tells T.tells (S.feed source.old) (S.feed source.new) (T.sight site.old) (T.sight site.new) result }
 {
@@ -40,7 +41,7 @@ fn take_next<S: Source, T: Site>(
     source: &mut S,
     site: &mut T,
 ) -> Result<(), Status>
-    requires counted { state.old.machine.commands ≤ lines.old.given }
+    requires counted { state.old.machine.commands ≡ lines.old.given }
     ensures taken { (feed : Feed) (sight : Sight) → Midday S.tells T.tells feed sight lines.old state.old.machine (S.feed source.old) (T.sight site.old) → OnOk result (Midday S.tells T.tells feed sight lines.new state.new.machine (S.feed source.new) (T.sight site.new)) }
     ensures ended { (feed : Feed) (sight : Sight) → Midday S.tells T.tells feed sight lines.old state.old.machine (S.feed source.old) (T.sight site.old) → IfErr result (DayRun S.tells T.tells feed (S.feed source.new) sight (T.sight site.new)) }
     ensures given { OnOk result (lines.new.given ≡ lines.old.given + 1) }
@@ -64,6 +65,7 @@ fn answer<T: Site>(
     ensures line { IsTrue (is_line line.now) }
     ensures answers { Answers T.tells (plain_entry line.now) state.old.machine state.new.machine (T.sight site.old) (T.sight site.new) result }
 {
+    // Called for its clause alone: a history keeps such a line.
     let _bytes = line.bytes();
     let Ok(ready) = state.prepare(EDITION, line) else {
         return Err(Status::OutOfMemory);

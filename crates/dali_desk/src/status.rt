@@ -4,7 +4,7 @@ ghost use Rattle.dali_desk.specs.StatusLine.{line_of, words_of as words_of_statu
 /// How a run ended.
 #[derive(Clone, Copy, Debug, PartialEq, Eq)]
 pub enum Status {
-    /// The input was read to its end, and every reply was printed.
+    /// Of `day` the input was read to its end and every reply printed; of `init` the journal was made.
     Done,
     /// The words are none of the table.
     Usage,
@@ -16,7 +16,7 @@ pub enum Status {
     DiskFault,
     /// This command, counted from 1, has more than 200 bytes.
     LongLine { command: u64 },
-    /// The next command doesn't end within the 67,108,864 bytes that a day file may have.
+    /// The next command doesn't end within the 67,108,864 bytes that a day file may have, and there was one byte more.
     LongFile,
     /// Memory was wanted and wasn't there.
     OutOfMemory,

@@ -72,23 +72,38 @@ fn full_tables(rt: HostRuntime) -> Result<(), Fail> {
     Ok(())
 }
 
-/// A command has at most 200 bytes, and a comment any number.
-#[test]
-fn line_limits(rt: HostRuntime) -> Result<(), Fail> {
-    let mut file = text(rt.alloc(), b"#")?;
+/// An accepted command, a comment of 1,000 bytes, and the start of a command of so many bytes.
+fn with_long_command(alloc: Global, bytes: u64) -> Result<Text, OutOfMemory> {
+    let mut file = text(alloc, b"080000,PART,A\n#")?;
     for _ in 0..999 {
         file.push(b'c')?;
     }
     file.push(b'\n')?;
-    for _ in 0..200 {
+    for _ in 0..bytes {
         file.push(b'X')?;
     }
-    let (status, printed) = day(rt.alloc(), file.bytes(), 30, None)?;
-    assert_eq!(rt; status, Status::Done);
-    assert_eq!(rt; printed.bytes(), b"1,NO,FORM\n".as_slice());
-    file.push(b'X')?;
-    let (status, printed) = day(rt.alloc(), file.bytes(), 30, None)?;
-    assert_eq!(rt; status, Status::LongLine { command: 1 });
-    assert!(rt; printed.is_empty());
+    Ok(file)
+}
+
+/// A command has at most 200 bytes, and a comment any number. The CR before an LF isn't counted, and one at the end of
+/// input is.
+#[test]
+fn line_limits(rt: HostRuntime) -> Result<(), Fail> {
+    let long = Status::LongLine { command: 2 };
+    let cases: [(u64, &[u8], Status, &[u8]); 6] = [
+        (200, b"", Status::Done, b"1,OK\n2,NO,FORM\n"),
+        (200, b"\n", Status::Done, b"1,OK\n2,NO,FORM\n"),
+        (200, b"\r\n", Status::Done, b"1,OK\n2,NO,FORM\n"),
+        (200, b"\r", long, b"1,OK\n"),
+        (201, b"", long, b"1,OK\n"),
+        (201, b"\n080000,PART,B\n", long, b"1,OK\n"),
+    ];
+    for (bytes, behind, ends, replies) in cases {
+        let mut file = with_long_command(rt.alloc(), bytes)?;
+        file.add(behind)?;
+        let (status, printed) = day(rt.alloc(), file.bytes(), 30, None)?;
+        assert_eq!(rt; status, ends);
+        assert_eq!(rt; printed.bytes(), replies);
+    }
     Ok(())
 }
