@@ -4,6 +4,7 @@ use Rattle.std.specs.List.{All, AllPairs, AllByRecursion}
 use Rattle.std.proofs.lemmas.List.{map-append, length-map, get_or-map}
 use Rattle.std.proofs.lemmas.List.Elements.{All-map, All-push, recursion_from_All}
 use Rattle.dali_outside.specs.Outside.{Feed, Sight, Rose, Goes, SameDisk}
+use Rattle.dali_outside.specs.Stops.{LeavesOnly}
 use Rattle.dali_line.specs.Line.{is_line}
 use Rattle.dali_line.specs.Commands.{commands}
 use Rattle.dali_line.specs.Lines.{FirstIsLong, MOST_OF_COMMAND, MOST_OF_FILE}
@@ -13,7 +14,7 @@ use Rattle.dali_machine.specs.History.{EntryRecord, IsEntry, IsLegal, state_afte
 use Rattle.dali_desk.specs.declared.status.Status.{Status}
 use Rattle.dali_desk.specs.declared.status.Status.TheVariants.{Done, Usage, ReadFault, PrintFault, DiskFault, LongLine, LongFile, OutOfMemory}
 use Rattle.dali_desk.specs.TextOf.{answer_to, texts, text_of, plain_entry, plain_history}
-use Rattle.dali_desk.specs.DayRun.{EndsDay, TakesDay, PrintsDay, DayRun, LongAfter, PastLimit}
+use Rattle.dali_desk.specs.DayRun.{EndsDay, TakesDay, PrintsDay, LeavesDay, DayRun}
 use Rattle.dali_desk.specs.Midday.{Quiet}
 use Rattle.dali_desk.proofs.Printing.{goes_on, goes_nowhere}
 
@@ -76,8 +77,9 @@ not_past old new lines takes small =
 pub ended : (source_tells site_tells : Bool) (old new : Feed) (before after : Sight) (status : Status) → EndsDay status → (status ≡ ReadFault → Rose old.faults new.faults) →
     (status ≡ PrintFault → Rose before.print_faults after.print_faults) → old.faults ≤ new.faults → Quiet site_tells before after → (lines : List (List ℕ)) →
     All (λ line. IsTrue (is_line line)) lines → (IsTrue source_tells → TakesDay old new lines status) → (IsTrue site_tells → PrintsDay status (text_of (plain_history lines)) before after) →
+    (IsTrue site_tells → LeavesOnly (LeavesDay before (text_of (plain_history lines))) before after) →
     DayRun source_tells site_tells old new before after status
-ended source_tells site_tells old new before after status ends read_fault print_fault faults quiet lines are input text = record {
+ended source_tells site_tells old new before after status ends read_fault print_fault faults quiet lines are input text stops = record {
   statuses = ends;
   read_fault = read_fault;
   print_fault = print_fault;
@@ -87,6 +89,7 @@ ended source_tells site_tells old new before after status ends read_fault print_
   legal = plain_is_legal lines are;
   input = input;
   text = text;
+  stops = stops;
   disk = quiet.disk;
   syncs = quiet.syncs;
   complete = λ t small short no_read no_print. (elim status as (λ s. EndsDay s → (s ≡ ReadFault → Rose old.faults new.faults) → (s ≡ PrintFault → Rose before.print_faults after.print_faults) → TakesDay old new lines s → (s ≡ Done) ⊎ (s ≡ OutOfMemory)) [

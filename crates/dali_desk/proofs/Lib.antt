@@ -1,5 +1,6 @@
 pub mod Printing
 pub mod Formatted
+pub mod Stopping
 pub mod ReadingOn
 pub mod Long
 pub mod Endings

@@ -3,6 +3,7 @@ use Rattle.std.specs.Prelude.{IsTrue, Result, Ok, Err, Option, Some, None, OnOk,
 use Rattle.std.specs.List.{All}
 use Rattle.std.proofs.lemmas.List.Elements.{All-push, All-nil}
 use Rattle.dali_outside.specs.Outside.{Feed, Sight, Rose}
+use Rattle.dali_outside.specs.Stops.{LeavesOnly}
 use Rattle.dali_line.specs.Line.{is_line}
 use Rattle.dali_line.specs.Commands.{commands}
 use Rattle.dali_line.specs.Lines.{Reader, Gives, Ends, Stops, MOST_OF_FILE, reached}
@@ -14,9 +15,10 @@ use Rattle.dali_machine.specs.History.{EntryRecord, state_after, state_of}
 use Rattle.dali_desk.specs.declared.status.Status.{Status}
 use Rattle.dali_desk.specs.declared.status.Status.TheVariants.{Done, Usage, ReadFault, PrintFault, DiskFault, LongLine, LongFile, OutOfMemory}
 use Rattle.dali_desk.specs.TextOf.{answer_to, texts, text_of, plain_entry, plain_history}
-use Rattle.dali_desk.specs.DayRun.{TakenAt, TakesDay, PrintsDay, PrintsFront, DayRun}
+use Rattle.dali_desk.specs.DayRun.{TakenAt, TakesDay, PrintsDay, PrintsFront, LeavesDay, DayRun}
 use Rattle.dali_desk.specs.Midday.{Reads, Quiet, Midday, TakesCommand, PrintsInPart, Answers, status_of_end}
 use Rattle.dali_desk.proofs.Printing.{front_behind}
+use Rattle.dali_desk.proofs.Stopping.{stops_start, stops_more}
 use Rattle.dali_desk.proofs.ReadingOn.{reads_start, reads_line, reads_first, reads_within, without_last, all_read, all_over, moves_on}
 use Rattle.dali_desk.proofs.Endings.{all_short, broken_off, past_limit, found_long, wants_memory}
 use Rattle.dali_desk.proofs.Days.{texts_more, state_more, plain_more, quiet_start, quiet_on, ended}
@@ -31,6 +33,7 @@ midday_start s t feed sight reader machine new first = subst (λ r. Midday s t f
   counted = omega arith;
   quiet = quiet_start t sight;
   text = λ _. sym (append-nil sight.printed);
+  stops = λ _. stops_start sight [];
 }))
 
 -- the text of the lines and of one more
@@ -40,11 +43,20 @@ text_more lines line machine is =
     ap text_of (plain_more lines line) ∙ texts_more opening (plain_history lines) (plain_entry line)
     ∙ ap (λ m. text_of (plain_history lines) ++ answer_to m (plain_entry line)) (sym is)
 
+-- what stops leave, with the reply to one more line
+one_more_stops : (s t : Bool) (old : Feed) (before : Sight) (reader : Reader) (machine : Machine) (feed : Feed) (sight then : Sight) (line : List ℕ) →
+    (day : Midday s t old before reader machine feed sight) → (IsTrue t → LeavesOnly (LeavesDay sight (answer_to machine (plain_entry line))) sight then) → IsTrue t →
+    LeavesOnly (LeavesDay before (text_of (plain_history (day.lines ++ line ∷ [])))) before then
+one_more_stops s t old before reader machine feed sight then line day stops told =
+    subst (λ text. LeavesOnly (LeavesDay before text) before then) (sym (text_more day.lines line machine day.state))
+    (stops_more (text_of (plain_history day.lines)) (answer_to machine (plain_entry line)) before sight then (day.stops told) (stops told) (day.quiet.disk told) (day.text told))
+
 -- one more command was taken
 pub midday_more : (s t : Bool) (old : Feed) (before : Sight) (reader new : Reader) (machine next : Machine) (feed after : Feed) (sight then : Sight) (line : List ℕ) →
     Midday s t old before reader machine feed sight → reader.over ≡ false → Gives s line reader new feed after → feed.faults ≤ after.faults → IsTrue (is_line line) →
-    Quiet t sight then → TakesCommand t (plain_entry line) machine next sight then → Midday s t old before new next after then
-midday_more s t old before reader new machine next feed after sight then line day running gives faults is quiet takes = record {
+    Quiet t sight then → (IsTrue t → LeavesOnly (LeavesDay sight (answer_to machine (plain_entry line))) sight then) → TakesCommand t (plain_entry line) machine next sight then →
+    Midday s t old before new next after then
+midday_more s t old before reader new machine next feed after sight then line day running gives faults is quiet stops takes = record {
   lines = day.lines ++ line ∷ [];
   are = All-push (λ l. IsTrue (is_line l)) day.lines line day.are is;
   reads = reads_line s old day.lines reader new feed after line day.reads running gives;
@@ -55,6 +67,7 @@ midday_more s t old before reader new machine next feed after sight then line da
   text = λ told. takes.printed told ∙ ap (λ xs. xs ++ answer_to machine (plain_entry line)) (day.text told)
       ∙ append_assoc before.printed (text_of (plain_history day.lines)) (answer_to machine (plain_entry line))
       ∙ ap (λ xs. before.printed ++ xs) (sym (text_more day.lines line machine day.state));
+  stops = λ told. one_more_stops s t old before reader machine feed sight then line day stops told;
 }
 
 -- the end of input, met now
@@ -67,7 +80,7 @@ day_done s t old before reader new machine feed after sight day running end faul
       moved = moves_on old.left day.reads.got feed.left end.meets.got after.left (day.reads.moved told) (end.meets.gets.moved told);
       first = reads_first s old day.lines reader feed day.reads told;
       at = all_read s old day.lines reader new feed after day.reads running end told;
-    }) day.text
+    }) day.text day.stops
 
 -- the end of input, met behind the last command
 pub day_over : (s t : Bool) (old : Feed) (before : Sight) (reader : Reader) (machine : Machine) (feed : Feed) (sight : Sight) →
@@ -79,7 +92,7 @@ day_over s t old before reader machine feed sight day over =
       moved = day.reads.moved told;
       first = reads_first s old day.lines reader feed day.reads told;
       at = all_over s old day.lines reader feed day.reads over told;
-    }) day.text
+    }) day.text day.stops
 
 -- the reader of lines stopped
 pub day_stopped : (s t : Bool) (old : Feed) (before : Sight) (reader new : Reader) (machine : Machine) (feed after : Feed) (sight : Sight) (end : LineEnd) →
@@ -92,7 +105,7 @@ day_stopped s t old before reader new machine feed after sight ends.ReadFault da
       moved = moves_on old.left day.reads.got feed.left stop.got after.left (day.reads.moved told) (stop.gets.moved told);
       first = reads_first s old day.lines reader feed day.reads told;
       at = broken_off s old day.lines reader new feed after day.reads running (all_short day.lines day.are) stop;
-    }) day.text
+    }) day.text day.stops
 day_stopped s t old before reader new machine feed after sight (ends.LongLine k) day running stop faults rose =
     ended s t old after before sight (LongLine k) tt (λ is. absurd (Prim.cc)) (λ is. absurd (Prim.cc)) (omega (arith, day.faults, faults)) day.quiet day.lines day.are
     (λ told. record {
@@ -101,7 +114,7 @@ day_stopped s t old before reader new machine feed after sight (ends.LongLine k)
       first = reads_first s old day.lines reader feed day.reads told;
       at = subst (λ n. TakenAt (LongLine n) (day.reads.got ++ stop.1.got) after.left day.lines) (sym stop.0)
           (found_long s old day.lines reader new feed after day.reads running told stop.1);
-    }) day.text
+    }) day.text day.stops
 day_stopped s t old before reader new machine feed after sight ends.LongFile day running stop faults rose =
     ended s t old after before sight LongFile tt (λ is. absurd (Prim.cc)) (λ is. absurd (Prim.cc)) (omega (arith, day.faults, faults)) day.quiet day.lines day.are
     (λ told. record {
@@ -109,7 +122,7 @@ day_stopped s t old before reader new machine feed after sight ends.LongFile day
       moved = moves_on old.left day.reads.got feed.left (stop.got ++ stop.past ∷ []) after.left (day.reads.moved told) (stop.moved told);
       first = reads_first s old day.lines reader feed day.reads told;
       at = past_limit s old day.lines reader new feed after day.reads running (all_short day.lines day.are) stop;
-    }) day.text
+    }) day.text day.stops
 day_stopped s t old before reader new machine feed after sight ends.OutOfMemory day running stop faults rose =
     ended s t old after before sight OutOfMemory tt (λ is. absurd (Prim.cc)) (λ is. absurd (Prim.cc)) (omega (arith, day.faults, faults)) day.quiet day.lines day.are
     (λ told. record {
@@ -117,28 +130,30 @@ day_stopped s t old before reader new machine feed after sight ends.OutOfMemory 
       moved = moves_on old.left day.reads.got feed.left stop.got after.left (day.reads.moved told) (stop.moved told);
       first = reads_first s old day.lines reader feed day.reads told;
       at = wants_memory s old day.lines reader new feed after day.reads running stop;
-    }) day.text
+    }) day.text day.stops
 
 -- memory was wanted for a command that was read
 pub day_wants : (s t : Bool) (old : Feed) (before : Sight) (reader new : Reader) (machine : Machine) (feed after : Feed) (sight then : Sight) (line : List ℕ) →
     Midday s t old before reader machine feed sight → reader.over ≡ false → Gives s line reader new feed after → feed.faults ≤ after.faults →
-    Quiet t sight then → (IsTrue t → then.printed ≡ sight.printed) → DayRun s t old after before then OutOfMemory
-day_wants s t old before reader new machine feed after sight then line day running gives faults quiet same =
+    then ≡ sight → DayRun s t old after before then OutOfMemory
+day_wants s t old before reader new machine feed after sight then line day running gives faults same =
     let reads = reads_line s old day.lines reader new feed after line day.reads running gives in
-    ended s t old after before then OutOfMemory tt (λ is. absurd (Prim.cc)) (λ is. absurd (Prim.cc)) (omega (arith, day.faults, faults)) (quiet_on t before sight then day.quiet quiet) day.lines day.are
+    subst (λ (x : Sight). DayRun s t old after before x OutOfMemory) (sym same)
+    (ended s t old after before sight OutOfMemory tt (λ is. absurd (Prim.cc)) (λ is. absurd (Prim.cc)) (omega (arith, day.faults, faults)) day.quiet day.lines day.are
     (λ told. record {
       taken = reads.got;
       moved = reads.moved told;
       first = reads_first s old day.lines reader feed day.reads told;
       at = without_last reads.got day.lines line (reads_within s old (day.lines ++ line ∷ []) new after reads);
     })
-    (λ told. same told ∙ day.text told)
+    day.text day.stops)
 
 -- a reply could not be printed
 pub day_unprinted : (s t : Bool) (old : Feed) (before : Sight) (reader new : Reader) (machine : Machine) (feed after : Feed) (sight then : Sight) (line : List ℕ) →
     Midday s t old before reader machine feed sight → reader.over ≡ false → Gives s line reader new feed after → feed.faults ≤ after.faults → IsTrue (is_line line) →
-    Quiet t sight then → PrintsInPart t (plain_entry line) machine sight then → DayRun s t old after before then PrintFault
-day_unprinted s t old before reader new machine feed after sight then line day running gives faults is quiet breaks =
+    Quiet t sight then → (IsTrue t → LeavesOnly (LeavesDay sight (answer_to machine (plain_entry line))) sight then) → PrintsInPart t (plain_entry line) machine sight then →
+    DayRun s t old after before then PrintFault
+day_unprinted s t old before reader new machine feed after sight then line day running gives faults is quiet stops breaks =
     let reads = reads_line s old day.lines reader new feed after line day.reads running gives in
     ended s t old after before then PrintFault tt (λ e. absurd (Prim.cc)) (λ e. omega (arith, breaks.rose, day.quiet.goes.print)) (omega (arith, day.faults, faults)) (quiet_on t before sight then day.quiet quiet)
     (day.lines ++ line ∷ []) (All-push (λ l. IsTrue (is_line l)) day.lines line day.are is)
@@ -150,13 +165,14 @@ day_unprinted s t old before reader new machine feed after sight then line day r
     })
     (λ told. subst (λ text. PrintsFront text before then) (sym (text_more day.lines line machine day.state))
     (front_behind (text_of (plain_history day.lines)) (answer_to machine (plain_entry line)) before sight then (day.text told) (breaks.front told)))
+    (λ told. one_more_stops s t old before reader machine feed sight then line day stops told)
 
 -- no memory for the reader of lines
 pub day_unopened : (s t : Bool) (feed : Feed) (sight : Sight) → DayRun s t feed feed sight sight OutOfMemory
 day_unopened s t feed sight =
     ended s t feed feed sight sight OutOfMemory tt (λ is. absurd (Prim.cc)) (λ is. absurd (Prim.cc)) (omega arith) (quiet_start t sight) [] (All-nil (λ line. IsTrue (is_line line)))
     (λ told. record { taken = []; moved = refl; first = record { rest = commands feed.left; parts = refl }; at = record { limit = omega arith; first = record { rest = []; parts = refl } } })
-    (λ told. sym (append-nil sight.printed))
+    (λ told. sym (append-nil sight.printed)) (λ told. stops_start sight [])
 
 -- a reader that gave an answer that one that is over doesn't give isn't over
 pub is_running : {X E : Type 0} (b : Bool) (r : Result (Option X) E) → (b ≡ true → r ≡ Ok None) → (r ≡ Ok None → ⊥) → b ≡ false
@@ -168,7 +184,7 @@ pub goes_on_day : (s t : Bool) (old : Feed) (before : Sight) (reader new : Reade
     reader.over ≡ false → Gives s line reader new feed after → feed.faults ≤ after.faults → IsTrue (is_line line) → Answers t (plain_entry line) machine next sight then result →
     Midday s t old before reader machine feed sight → OnOk result (Midday s t old before new next after then)
 goes_on_day s t old before reader new machine next feed after sight then line (Ok u) running gives faults is answers day =
-    midday_more s t old before reader new machine next feed after sight then line day running gives faults is answers.quiet answers.came
+    midday_more s t old before reader new machine next feed after sight then line day running gives faults is answers.quiet answers.stops answers.came
 goes_on_day s t old before reader new machine next feed after sight then line (Err e) running gives faults is answers day = tt
 
 pub ends_day : (s t : Bool) (old : Feed) (before : Sight) (reader new : Reader) (machine next : Machine) (feed after : Feed) (sight then : Sight) (line : List ℕ) (result : Result Unit Status) →
@@ -176,9 +192,9 @@ pub ends_day : (s t : Bool) (old : Feed) (before : Sight) (reader new : Reader) 
     Midday s t old before reader machine feed sight → IfErr result (DayRun s t old after before then)
 ends_day s t old before reader new machine next feed after sight then line (Ok u) running gives faults is answers day = tt
 ends_day s t old before reader new machine next feed after sight then line (Err PrintFault) running gives faults is answers day =
-    day_unprinted s t old before reader new machine feed after sight then line day running gives faults is answers.quiet answers.came
+    day_unprinted s t old before reader new machine feed after sight then line day running gives faults is answers.quiet answers.stops answers.came
 ends_day s t old before reader new machine next feed after sight then line (Err OutOfMemory) running gives faults is answers day =
-    day_wants s t old before reader new machine feed after sight then line day running gives faults answers.quiet answers.came
+    day_wants s t old before reader new machine feed after sight then line day running gives faults answers.came
 ends_day s t old before reader new machine next feed after sight then line (Err Done) running gives faults is answers day = absurd answers.came
 ends_day s t old before reader new machine next feed after sight then line (Err Usage) running gives faults is answers day = absurd answers.came
 ends_day s t old before reader new machine next feed after sight then line (Err ReadFault) running gives faults is answers day = absurd answers.came

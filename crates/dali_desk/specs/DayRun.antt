@@ -1,6 +1,7 @@
 use Rattle.std.specs.Prelude.{◌≡◌, ℕ, ◌+◌, ◌-◌, ◌<◌, ◌≤◌, ◌⊎◌, Bool, IsTrue, List, [], ◌∷◌, ◌++◌, length, drop}
 use Rattle.std.specs.List.{All}
 use Rattle.dali_outside.specs.Outside.{Feed, Sight, Rose, Goes, SameDisk}
+use Rattle.dali_outside.specs.Stops.{IsImage, LeavesOnly}
 use Rattle.dali_line.specs.Commands.{commands, ended_commands}
 use Rattle.dali_line.specs.Lines.{FirstIsLong, MOST_OF_COMMAND, MOST_OF_FILE}
 use Rattle.dali_machine.specs.History.{IsLegal}
@@ -18,6 +19,14 @@ pub record PrintsFront (text : List ℕ) (old new : Sight) : Type 0 where
   pub went : List ℕ
   pub printed : new.printed ≡ old.printed ++ went
   pub front : IsFront went text
+
+-- what a stop may leave while this text is printed and the disk isn't written: an image that a stop at the start might
+-- have left, and a front of the text behind what was printed before
+pub record LeavesDay (old : Sight) (text image left : List ℕ) : Type 0 where
+  pub disk : IsImage old.bytes old.loose image
+  pub shown : List ℕ
+  pub printed : left ≡ old.printed ++ shown
+  pub front : IsFront shown text
 
 -- the statuses of a `day` that doesn't open its journal
 abbrev pub EndsDay : Status → Type 0
@@ -120,6 +129,8 @@ pub record DayRun (source_tells site_tells : Bool) (old new : Feed) (before afte
   pub legal : IsLegal (plain_history lines)
   pub input : IsTrue source_tells → TakesDay old new lines status
   pub text : IsTrue site_tells → PrintsDay status (text_of (plain_history lines)) before after
+  -- at every moment since the start a stop leaves a disk that it might have left at the start, and a front of the text
+  pub stops : IsTrue site_tells → LeavesOnly (LeavesDay before (text_of (plain_history lines))) before after
   -- the disk is as before, and nothing was synced
   pub disk : IsTrue site_tells → SameDisk before after
   pub syncs : after.syncs ≤ before.syncs

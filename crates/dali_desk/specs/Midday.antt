@@ -1,6 +1,7 @@
 use Rattle.std.specs.Prelude.{◌≡◌, ℕ, ◌+◌, ◌≤◌, Bool, true, false, IsTrue, List, [], ◌∷◌, ◌++◌, length, Result, Ok, Err}
 use Rattle.std.specs.List.{All}
 use Rattle.dali_outside.specs.Outside.{Feed, Sight, Rose, Goes, SameDisk}
+use Rattle.dali_outside.specs.Stops.{LeavesOnly}
 use Rattle.dali_line.specs.Commands.{commands, ended_commands}
 use Rattle.dali_line.specs.Line.{is_line}
 use Rattle.dali_line.specs.Lines.{Reader, MOST_OF_FILE}
@@ -10,7 +11,7 @@ use Rattle.dali_machine.specs.Machine.{Machine}
 use Rattle.dali_machine.specs.Step.{step}
 use Rattle.dali_machine.specs.History.{EntryRecord, state_of}
 use Rattle.dali_desk.specs.TextOf.{answer_to, text_of, plain_history}
-use Rattle.dali_desk.specs.DayRun.{PrintsFront}
+use Rattle.dali_desk.specs.DayRun.{PrintsFront, LeavesDay}
 use Rattle.dali_desk.specs.declared.status.Status.{Status}
 use Rattle.dali_desk.specs.declared.status.Status.TheVariants.{Done, ReadFault, PrintFault, LongLine, LongFile, OutOfMemory}
 
@@ -55,6 +56,7 @@ pub record Midday (source_tells site_tells : Bool) (old : Feed) (before : Sight)
   pub counted : machine.commands ≡ reader.given
   pub quiet : Quiet site_tells before sight
   pub text : IsTrue site_tells → sight.printed ≡ before.printed ++ text_of (plain_history lines)
+  pub stops : IsTrue site_tells → LeavesOnly (LeavesDay before (text_of (plain_history lines))) before sight
 
 -- a command was taken and its reply printed
 pub record TakesCommand (told : Bool) (e : EntryRecord) (old new : Machine) (before after : Sight) : Type 0 where
@@ -71,12 +73,13 @@ pub record PrintsInPart (told : Bool) (e : EntryRecord) (old : Machine) (before 
 abbrev pub AnswersAs : Bool → EntryRecord → Machine → Machine → Sight → Sight → Result Unit Status → Type 0
 AnswersAs told e old new before after (Ok u) = TakesCommand told e old new before after
 AnswersAs told e old new before after (Err PrintFault) = PrintsInPart told e old before after
-AnswersAs told e old new before after (Err OutOfMemory) = IsTrue told → after.printed ≡ before.printed
+AnswersAs told e old new before after (Err OutOfMemory) = after ≡ before
 AnswersAs told e old new before after (Err status) = ⊥
 
 -- taking one command: the disk stays, and it came to this
 pub record Answers (told : Bool) (e : EntryRecord) (old new : Machine) (before after : Sight) (result : Result Unit Status) : Type 0 where
   pub quiet : Quiet told before after
+  pub stops : IsTrue told → LeavesOnly (LeavesDay before (answer_to old e)) before after
   pub came : AnswersAs told e old new before after result
 
 -- how the day ends where the reader of lines gives no more
