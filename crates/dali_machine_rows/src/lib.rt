@@ -1,0 +1,6 @@
+//! Worked rows of the machine: what is answered to the commands of small days that were worked out by hand. There is
+//! nothing but tests here.
+#![tactic(auto)]
+
+#[cfg(test)]
+mod tests;
