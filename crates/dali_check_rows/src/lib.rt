@@ -1,6 +1,12 @@
-//! Worked rows of the certificate checker: its answers on small problems and choices that were worked out by hand. There
-//! is nothing but tests here.
+//! Worked rows of the certificate checker: its answers on small problems and choices that were worked out by hand, and
+//! a comparison with the plain slow program. There is nothing but tests here.
 #![tactic(auto)]
 
 #[cfg(test)]
-mod tests;
+mod choices;
+#[cfg(test)]
+mod plain;
+#[cfg(test)]
+mod problems;
+#[cfg(test)]
+mod rows;
