@@ -5,9 +5,9 @@ use Rattle.std.proofs.lemmas.List.{map-append, length-map, get_or-map}
 use Rattle.std.proofs.lemmas.List.Elements.{All-map, All-push, recursion_from_All}
 use Rattle.dali_outside.specs.Outside.{Feed, Sight, Rose, Goes, SameDisk}
 use Rattle.dali_outside.specs.Stops.{LeavesOnly}
-use Rattle.dali_line.specs.Line.{is_line}
+use Rattle.dali_line.specs.Line.{MOST_OF_COMMAND, is_line}
 use Rattle.dali_line.specs.Commands.{commands}
-use Rattle.dali_line.specs.Lines.{FirstIsLong, MOST_OF_COMMAND, MOST_OF_FILE}
+use Rattle.dali_line.specs.Lines.{FirstIsLong, MOST_OF_FILE}
 use Rattle.dali_machine.specs.Machine.{Machine, opening}
 use Rattle.dali_machine.specs.Step.{step}
 use Rattle.dali_machine.specs.History.{EntryRecord, IsEntry, IsLegal, state_after, state_of}

@@ -4,9 +4,9 @@ use Rattle.std.specs.List.{All, AllByRecursion}
 use Rattle.std.proofs.lemmas.Bool.Decides.{nat_tests}
 use Rattle.std.proofs.lemmas.List.Elements.{recursion_from_All}
 use Rattle.dali_outside.specs.Outside.{Feed}
-use Rattle.dali_line.specs.Line.{is_line}
+use Rattle.dali_line.specs.Line.{MOST_OF_COMMAND, is_line}
 use Rattle.dali_line.specs.Commands.{commands, ended_commands}
-use Rattle.dali_line.specs.Lines.{Reader, FirstIsLong, IsLong, MOST_OF_COMMAND, MOST_OF_FILE, BreaksOff, FindsLong, PassesLimit, WantsMemory, reached}
+use Rattle.dali_line.specs.Lines.{Reader, FirstIsLong, IsLong, MOST_OF_FILE, BreaksOff, FindsLong, PassesLimit, WantsMemory, reached}
 use Rattle.dali_desk.specs.DayRun.{IsLongAt, ShowsLong, ShowsNoLong, BreaksAfter, LongAfter, PastLimit, StopsWithin}
 use Rattle.dali_desk.specs.Midday.{GoesOn, Reads}
 use Rattle.dali_desk.proofs.ReadingOn.{going}

@@ -5,7 +5,8 @@ use Rattle.std.specs.Str.Lines.{lines, lines_of_parts, strip_carriage_return}
 use Rattle.std.proofs.lemmas.List.Elements.{recursion_from_All}
 use Rattle.dali_line.proofs.Cuts.{is_cut}
 use Rattle.dali_line.specs.Commands.{commands, ended_commands, ended_of_parts, is_command}
-use Rattle.dali_line.specs.Lines.{FirstIsLong, IsLong, MOST_OF_COMMAND}
+use Rattle.dali_line.specs.Line.{MOST_OF_COMMAND}
+use Rattle.dali_line.specs.Lines.{FirstIsLong, IsLong}
 use Rattle.dali_desk.specs.DayRun.{IsLongAt, ShowsLong, ShowsNoLong}
 
 -- one more piece in both lists that are filtered

@@ -3,7 +3,8 @@ use Rattle.std.specs.List.{All}
 use Rattle.dali_outside.specs.Outside.{Feed, Sight, Rose, Goes, SameDisk}
 use Rattle.dali_outside.specs.Stops.{IsImage, LeavesOnly}
 use Rattle.dali_line.specs.Commands.{commands, ended_commands}
-use Rattle.dali_line.specs.Lines.{FirstIsLong, MOST_OF_COMMAND, MOST_OF_FILE}
+use Rattle.dali_line.specs.Line.{MOST_OF_COMMAND}
+use Rattle.dali_line.specs.Lines.{FirstIsLong, MOST_OF_FILE}
 use Rattle.dali_machine.specs.History.{IsLegal}
 use Rattle.dali_desk.specs.TextOf.{text_of, plain_history}
 use Rattle.dali_desk.specs.declared.status.Status.{Status}

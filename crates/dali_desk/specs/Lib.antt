@@ -5,6 +5,7 @@ pub mod DayRun
 pub mod Midday
 pub mod InitRun
 pub use Rattle.dali_line.specs.Commands
+pub use Rattle.dali_line.specs.Line
 pub use Rattle.dali_line.specs.Lines
 pub use Rattle.dali_machine.specs.History
 pub use Rattle.dali_machine.specs.Step

@@ -2,6 +2,10 @@ use Rattle.std.specs.Prelude.{ℕ, Bool, not, ◌==◌, ◌&&◌, nat_le, List, 
 use Rattle.std.specs.List.{list_all}
 use Rattle.dali_line.specs.Commands.{is_command}
 
--- what a history keeps as a line: a command of at most 200 bytes in one line
+-- the most bytes of a command
+abbrev pub MOST_OF_COMMAND : ℕ
+MOST_OF_COMMAND = 200
+
+-- what a history keeps as a line: a command of at most so many bytes in one line
 abbrev pub is_line : List ℕ → Bool
-is_line bytes = is_command bytes && nat_le (length bytes) 200 && list_all (λ b. not (b == 10)) bytes
+is_line bytes = is_command bytes && nat_le (length bytes) MOST_OF_COMMAND && list_all (λ b. not (b == 10)) bytes

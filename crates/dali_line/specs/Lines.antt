@@ -1,12 +1,9 @@
 use Rattle.std.specs.Prelude.{◌≡◌, ℕ, ◌+◌, ◌<◌, ◌≤◌, ◌⊎◌, Bool, true, false, IsTrue, List, [], ◌∷◌, ◌++◌, length}
 use Rattle.dali_outside.specs.Outside.{Feed}
 use Rattle.dali_line.specs.Commands.{commands, ended_commands}
+use Rattle.dali_line.specs.Line.{MOST_OF_COMMAND}
 use Rattle.dali_line.specs.declared.line_end.LineEnd.{LineEnd}
 use Rattle.dali_line.specs.declared.line_end.LineEnd.TheVariants.{ReadFault, LongLine, LongFile, OutOfMemory}
-
--- the most bytes of a command
-abbrev pub MOST_OF_COMMAND : ℕ
-MOST_OF_COMMAND = 200
 
 -- the most bytes of a day file
 abbrev pub MOST_OF_FILE : ℕ

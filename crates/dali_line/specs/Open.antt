@@ -2,7 +2,8 @@ use Rattle.std.specs.Prelude.{◌≡◌, ℕ, ◌==◌, ◌≤◌, ◌<◌, Bool
 use Rattle.std.specs.List.{All}
 use Rattle.std.specs.Str.Lines.{strip_carriage_return}
 use Rattle.dali_line.specs.Commands.{commands, ended_commands}
-use Rattle.dali_line.specs.Lines.{Gets, Reach, MOST_OF_COMMAND}
+use Rattle.dali_line.specs.Line.{MOST_OF_COMMAND}
+use Rattle.dali_line.specs.Lines.{Gets, Reach}
 use Rattle.dali_line.specs.declared.open_line.OpenLine.TheInside.{Inside}
 
 -- no LF is among these bytes
