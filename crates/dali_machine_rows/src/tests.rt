@@ -7,7 +7,6 @@ use std::process::Abort;
 use std::test::Fail;
 
 mod days;
-mod tables;
 
 /// A day, and a word for what was answered to each of its commands so far, with spaces between them.
 #[derive(Drop)]
