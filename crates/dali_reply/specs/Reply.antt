@@ -11,9 +11,10 @@ use Rattle.dali_machine.specs.declared.outcome.Code.TheVariants.{Form, Back, Clo
 use Rattle.dali_machine.specs.declared.outcome.Outcome.{Outcome}
 use Rattle.dali_machine.specs.declared.outcome.Outcome.TheVariants.{Done, No, Queue, Stat, Ledger}
 
--- The reply to command number k is a list of lines. A line is a row of text: fields joined by commas, ended by LF. Its
--- first field is k, and its second the line's word.
+-- A reply is one line or more. Each is a row of text, fields joined by commas and ended by LF: the number k of the
+-- command, the line's word, and that word's fields.
 
+-- the word that a refusal prints
 abbrev pub code_text : Code → List ℕ
 code_text Form = codes "FORM"
 code_text Back = codes "BACK"
@@ -30,9 +31,11 @@ code_text Value = codes "VALUE"
 code_text Gone = codes "GONE"
 code_text Linked = codes "LINKED"
 
+-- an accepted command that prints no rows
 abbrev pub ok_line : ℕ → List ℕ
 ok_line k = row_text (decimal k ∷ codes "OK" ∷ [])
 
+-- a refusal
 abbrev pub no_line : ℕ → Code → List ℕ
 no_line k code = row_text (decimal k ∷ codes "NO" ∷ code_text code ∷ [])
 
@@ -56,6 +59,7 @@ held_line k id = row_text (decimal k ∷ codes "HELD" ∷ id ∷ [])
 abbrev pub posting_line : ℕ → Posting → List ℕ
 posting_line k p = row_text (decimal k ∷ codes "ROW" ∷ decimal p.number ∷ decimal p.command ∷ p.asset ∷ signed_decimal p.delta ∷ decimal p.after ∷ [])
 
+-- the reply to command number k, which had this outcome
 abbrev pub reply_text : ℕ → Outcome → List ℕ
 reply_text k Done = ok_line k
 reply_text k (No code) = no_line k code
