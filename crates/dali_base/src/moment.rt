@@ -51,6 +51,7 @@ pub fn read_moment(bytes: &[u8]) -> Option<Moment>
     ensures exact { result ≡ spelled_moment bytes.now }
     ensures some { IfSome result (λ m. (m < DAY) × (bytes.now ≡ moment_digits m)) }
     ensures none { IfNone result ((m : ℕ) → m < DAY → bytes.now ≡ moment_digits m → ⊥) }
+    ensures only { (s : ℕ) → s < DAY → bytes.now ≡ moment_digits s → result ≡ Some s }
 {
     match read_seconds(bytes) {
         Some(seconds) => Some(Moment { seconds }),

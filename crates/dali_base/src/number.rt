@@ -8,6 +8,7 @@ pub fn read_number(bytes: &[u8], max: u64) -> Option<u64>
     ensures exact { result ≡ spelled_number max bytes.now }
     ensures some { IfSome result (λ n. IsNumber max bytes.now n) }
     ensures none { IfNone result ((n : ℕ) → IsNumber max bytes.now n → ⊥) }
+    ensures only { (n : ℕ) → IsNumber max bytes.now n → result ≡ Some n }
 {
     number_within(bytes, max)
 }
