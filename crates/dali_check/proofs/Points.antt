@@ -1,4 +1,4 @@
-use Rattle.std.proofs.Common.{◌≡◌, ℕ, zero, suc, ◌^◌, ◌<◌, ◌*ℤ◌, ◌+ℤ◌, pos, Bool, true, ◌&&◌, List, [], ◌∷◌, length, get_or, map, ltb, leb, refl, ap, ◌∙◌, arith}
+use Rattle.std.proofs.Common.{◌≡◌, ℕ, zero, suc, ◌^◌, ◌<◌, ◌*ℤ◌, ◌+ℤ◌, pos, Bool, true, List, [], ◌∷◌, length, get_or, map, ltb, leb, refl, ap, ◌∙◌, arith}
 use Rattle.std.specs.List.{All, AllPairs, list_all}
 use Rattle.std.specs.Int.{int_max}
 use Rattle.std.proofs.lemmas.Bool.{and_parts, ltb-true, leb-true}

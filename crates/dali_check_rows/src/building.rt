@@ -9,8 +9,11 @@ use std::cmp::Ordering;
 use std::process::Abort;
 
 const MOST_BALANCE: u64 = 1_000_000_000_000_000_000;
+
 const MOST_VALUE: u64 = 128_000_000_000_000_000;
+
 const MOST_TOTAL: u64 = 16_384_000_000_000_000_000;
+
 const MOST_AMOUNT: i64 = 8_000_000_000_000_000;
 
 /// Adds a line behind the last one. Stops the test where that can't be.

@@ -85,8 +85,18 @@ pub(crate) fn delivery_chain(rt: &impl Abort, alloc: Global) -> Problem {
     put_line(rt, &mut problem, line(b"S", b"X", 0));
     put_line(rt, &mut problem, line(b"T", b"MXN", 510));
     put_line(rt, &mut problem, line(b"T", b"X", 0));
-    let first = [effect(0, 500), effect(1, -50), effect(2, -500), effect(3, 50)];
-    let second = [effect(2, 510), effect(3, -50), effect(4, -510), effect(5, 50)];
+    let first = [
+        effect(0, 500),
+        effect(1, -50),
+        effect(2, -500),
+        effect(3, 50),
+    ];
+    let second = [
+        effect(2, 510),
+        effect(3, -50),
+        effect(4, -510),
+        effect(5, 50),
+    ];
     put_item(rt, &mut problem, name(b"D1"), 500, &first);
     put_item(rt, &mut problem, name(b"D2"), 510, &second);
     problem
@@ -101,8 +111,18 @@ pub(crate) fn linked_deliveries(rt: &impl Abort, alloc: Global) -> Problem {
     put_line(rt, &mut problem, line(b"S", b"MXN", 0));
     put_line(rt, &mut problem, line(b"S", b"X", 0));
     put_line(rt, &mut problem, line(b"S", b"Y", 10));
-    let first = [effect(0, 100), effect(1, -10), effect(3, -100), effect(4, 10)];
-    let second = [effect(0, -100), effect(2, 10), effect(3, 100), effect(5, -10)];
+    let first = [
+        effect(0, 100),
+        effect(1, -10),
+        effect(3, -100),
+        effect(4, 10),
+    ];
+    let second = [
+        effect(0, -100),
+        effect(2, 10),
+        effect(3, 100),
+        effect(5, -10),
+    ];
     put_item(rt, &mut problem, name(b"D1"), 100, &first);
     put_item(rt, &mut problem, name(b"D2"), 100, &second);
     problem

@@ -86,13 +86,13 @@ bears_paid p f j told limits size within undec is =
     let all : Decides (list_all (bears p f j) (item_at p j).effects) (All (λ e. bears p f j e ≡ true) (item_at p j).effects) =
     Decides-by_and (bears p f j) (λ e. bears p f j e ≡ true) (list_all (bears p f j)) (λ e. (λ x. x, λ x. x)) refl (λ _ _. refl) (item_at p j).effects in (
       (λ yes. paid_from p f j limits size within undec (λ k d below down.
-      unbarred (is_negative (get_or (item_at p j).effects k d).amount) (is_barred p f j (get_or (item_at p j).effects k d).line)
-      (negative (get_or (item_at p j).effects k d).amount down) (all.0 (sym is ∙ yes) k d below))),
+          unbarred (is_negative (get_or (item_at p j).effects k d).amount) (is_barred p f j (get_or (item_at p j).effects k d).line)
+          (negative (get_or (item_at p j).effects k d).amount down) (all.0 (sym is ∙ yes) k d below))),
       (λ paid. is ∙ all.1 (λ k d below. by_test (is_negative (get_or (item_at p j).effects k d).amount)
-      (λ down. ap (λ b. not (is_negative (get_or (item_at p j).effects k d).amount) || not b)
-      (barred_unpaid p f j k d limits size within undec below (negative_of (get_or (item_at p j).effects k d).amount down) paid)
-      ∙ or_true (not (is_negative (get_or (item_at p j).effects k d).amount)))
-      (λ credit. ap (λ b. not b || not (is_barred p f j (get_or (item_at p j).effects k d).line)) credit))),
+          (λ down. ap (λ b. not (is_negative (get_or (item_at p j).effects k d).amount) || not b)
+          (barred_unpaid p f j k d limits size within undec below (negative_of (get_or (item_at p j).effects k d).amount down) paid)
+          ∙ or_true (not (is_negative (get_or (item_at p j).effects k d).amount)))
+          (λ credit. ap (λ b. not b || not (is_barred p f j (get_or (item_at p j).effects k d).line)) credit))),
     )
   where
     unbarred : (a b : Bool) → a ≡ true → (not a || not b) ≡ true → b ≡ false

@@ -1,4 +1,4 @@
-use Rattle.std.specs.Prelude.{ℕ, ◌<◌, ◌≤◌, ◌^◌, Bool, IsTrue, ◌&&◌, nat_lt, nat_le, List, map}
+use Rattle.std.specs.Prelude.{ℕ, ◌≤◌, ◌^◌, Bool, IsTrue, ◌&&◌, nat_lt, nat_le, List, map}
 use Rattle.std.specs.List.{All, list_all}
 use Rattle.dali_tree.specs.declared.tree.Tree.{Tree}
 use Rattle.dali_tree.specs.declared.tree.End.TheOpen.{End-F}

@@ -1,4 +1,4 @@
-use Rattle.std.proofs.Common.{◌≡◌, ℕ, length, sym, subst, ◌∙◌}
+use Rattle.std.proofs.Common.{ℕ, length, subst}
 use Rattle.dali_tree.specs.Range.{IsInRange}
 use Rattle.dali_tree.proofs.Ranges.{choice_ranges}
 use Rattle.dali_fits.proofs.fitting.fits.Goals as goal

@@ -1,5 +1,5 @@
-use Rattle.std.proofs.Common.{◌≡◌, ◌+◌, ◌-◌, ◌/◌, ◌≤◌, ◌<◌, ◌^◌, ℕ, ℤ, subst, arith}
-use Rattle.dali_lagrange.specs.Best.{sum_with, IsBracket, RisesFrom}
+use Rattle.std.proofs.Common.{◌≡◌, ◌+◌, ◌-◌, ◌/◌, ℕ, ℤ, subst, arith}
+use Rattle.dali_lagrange.specs.Best.{sum_with, RisesFrom}
 use Rattle.dali_lagrange.proofs.Narrowing.{falls_told, rises_with, falls_with, best_of}
 use Rattle.dali_lagrange.proofs.kept.Kept.best_within.Goals as goal
 

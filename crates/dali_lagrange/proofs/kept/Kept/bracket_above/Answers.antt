@@ -1,4 +1,4 @@
-use Rattle.std.proofs.Common.{ℕ, ◌+◌, ◌^◌, ℤ, arith}
+use Rattle.std.proofs.Common.{ℕ, ◌+◌, ℤ, arith}
 use Rattle.dali_lagrange.specs.Best.{sum_with}
 use Rattle.dali_lagrange.proofs.Narrowing.{falls_told, rises_with, falls_with, rises_none}
 use Rattle.dali_lagrange.proofs.kept.Kept.bracket_above.Goals as goal
