@@ -17,8 +17,8 @@ use std::alloc::Global;
 
 /// Settled multipliers of a partial choice, none of them 0, whose Sum isn't above that of the multipliers given.
 ///
-/// What is settled is defined in `specs/Settled.antt`. A pass over all lines looks at each effect as often as a search by
-/// halves over the numbers from 0 to 2^44 takes steps.
+/// What is settled is defined in `specs/Settled.antt`. A pass over the lines looks at the effects on a line twice where
+/// the line has its best multiplier, up to 23 times where the best one is at most 65,536 away, and up to 50 times else.
 pub fn settle(
     alloc: Global,
     problem: &Problem,
