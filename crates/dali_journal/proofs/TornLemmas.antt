@@ -1,5 +1,6 @@
-use Rattle.std.proofs.Common.{◌≡◌, ◌∙◌, ℕ, zero, suc, ◌+◌, ◌-◌, ◌≤◌, Bool, true, false, List, [], ◌∷◌, ◌++◌, length, take, drop, replicate, slice_range, refl, sym, ap, subst, arith, append-nil}
-use Rattle.std.proofs.lemmas.List.{take-append-drop, length-replicate, length-take-le, length-drop}
+use Rattle.std.proofs.Common.{◌≡◌, ◌∙◌, ℕ, zero, suc, ◌+◌, ◌-◌, ◌≤◌, ◌<◌, All, Bool, true, false, List, [], ◌∷◌, ◌++◌, length, take, drop, replicate, slice_range, refl, sym, ap, subst, arith, append-nil}
+use Rattle.std.proofs.lemmas.List.{take-append-drop, take_at, drop_at, length-replicate, length-take-le, length-drop}
+use Rattle.std.proofs.lemmas.List.Elements.{All-nil, All-cons, All-take, All-drop}
 use Rattle.dali_outside.specs.Outside.{Sight, overlay, now, Writes, SameText, TellsAll}
 use Rattle.dali_outside.specs.Stops.{IsImage, Keeps, LeavesOnly}
 use Rattle.dali_outside.proofs.Images.{only_image, image_length, image_front, image_back}
@@ -58,6 +59,28 @@ torn_image bytes stands image at n m fits as_long all left =
     ∙ ap (λ xs. take at bytes ++ (range ++ xs)) back
     ∙ ap (λ k. take at bytes ++ (range ++ drop (at + k) bytes)) (sym long)
 
+loose_small : (n : ℕ) (bytes image : List ℕ) → IsImage bytes (replicate n true) image → All (λ b. b < 256) image
+loose_small zero [] [] left = All-nil (λ b. b < 256)
+loose_small zero [] (c ∷ image) left = absurd left
+loose_small zero (b ∷ bytes) image left = absurd left
+loose_small (suc n) [] image left = absurd left
+loose_small (suc n) (b ∷ bytes) [] left = absurd left
+loose_small (suc n) (b ∷ bytes) (c ∷ image) left = All-cons (λ b. b < 256) c image left.0 (loose_small n bytes image left.1)
+
+-- what it has in the range is bytes
+torn_small : (bytes image : List ℕ) (at n m : ℕ) → at + n ≤ m → IsImage bytes (overlay (replicate m false) at (replicate n true)) image → All (λ b. b < 256) (slice_range image at (at + n))
+torn_small bytes image at n m fits left =
+    let firm = replicate m false in
+    let loose = replicate n true in
+    let front : length (take at firm) ≡ at = length-take-le at firm (omega (arith, fits, length-replicate m false)) in
+    let marks : take n (drop at (overlay firm at loose)) ≡ loose =
+    ap (λ ls. take n ls) (drop_at (take at firm) (loose ++ drop (at + length loose) firm) at front) ∙ take_at loose (drop (at + length loose) firm) n (length-replicate n true) in
+    let part : IsImage (take n (drop at bytes)) loose (take n (drop at image)) =
+    subst (λ ls. IsImage (take n (drop at bytes)) ls (take n (drop at image))) marks
+    (image_front n (drop at bytes) (drop at (overlay firm at loose)) (drop at image) (image_back at bytes (overlay firm at loose) image left)) in
+    let width : n ≡ at + n - at = omega arith in
+    subst (λ k. All (λ b. b < 256) (take k (drop at image))) width (loose_small n (take n (drop at bytes)) (take n (drop at image)) part)
+
 module _ (old : Sight) (at n : ℕ) (fits : at + n ≤ length old.bytes) (firm : IsFirm old) (all : TellsAll old) where
   still_torn : Keeps (Torn old at n) (now old)
   still_torn image text left =
@@ -66,6 +89,7 @@ module _ (old : Sight) (at n : ℕ) (fits : at + n ≤ length old.bytes) (firm :
       record {
         stands = slice_range old.bytes at (at + n);
         as_long = range_length old.bytes at n fits;
+        small = All-take (λ b. b < 256) (at + n - at) (drop at old.bytes) (All-drop (λ b. b < 256) at old.bytes all.small);
         whole = same ∙ sym (overlay_same old.bytes at n fits);
         silent = left.printed ∙ nothing_more old.printed left.n;
       }
@@ -85,6 +109,7 @@ wrote_torn worked old new at piece fits firm all writes same =
     record {
       stands = slice_range image at (at + n);
       as_long = range_length image at n (omega (arith, fits, long));
+      small = torn_small (overlay old.bytes at writes.stands) image at n (length old.loose) (omega (arith, fits, all.bytes, all.loose)) disk;
       whole = whole;
       silent = left.printed ∙ nothing_more new.printed left.n ∙ same.printed;
     })

@@ -1,4 +1,4 @@
-use Rattle.std.specs.Prelude.{◌≡◌, ◌⊎◌, ℕ, ◌+◌, Bool, true, false, List, ◌++◌, length, replicate}
+use Rattle.std.specs.Prelude.{◌≡◌, ◌⊎◌, ℕ, ◌+◌, ◌<◌, Bool, true, false, List, ◌++◌, All, length, replicate}
 use Rattle.dali_outside.specs.Outside.{Sight, overlay}
 use Rattle.dali_outside.specs.Stops.{MightHaveLeft, MightHaveLeftAt, LeavesOnly}
 use Rattle.dali_journal.specs.Holds.{Holds, HoldsAt}
@@ -20,6 +20,7 @@ EachHolds edition list s = (image text : List ℕ) → MightHaveLeft s (length s
 pub record Torn (old : Sight) (at n : ℕ) (image text : List ℕ) : Type 0 where
   pub stands : List ℕ
   pub as_long : length stands ≡ n
+  pub small : All (λ b. b < 256) stands
   pub whole : image ≡ overlay old.bytes at stands
   pub silent : text ≡ old.printed
 

@@ -1,5 +1,5 @@
-use Rattle.std.proofs.Common.{◌≡◌, ℕ, zero, suc, ◌<◌, Bool, true, false, List, [], ◌∷◌, All, length, take, drop, replicate, refl, sym, subst, arith, append-nil}
-use Rattle.std.proofs.lemmas.List.Elements.{All-nil, All-cons, All-head, All-tail}
+use Rattle.std.proofs.Common.{◌≡◌, ℕ, zero, suc, ◌<◌, Bool, true, false, List, [], ◌∷◌, All, length, take, drop, replicate, refl, sym, arith, append-nil}
+use Rattle.std.proofs.lemmas.List.Elements.{All-head, All-tail}
 use Rattle.dali_outside.specs.Outside.{Sight, now, TellsAll}
 use Rattle.dali_outside.specs.Memory.{filled}
 use Rattle.dali_outside.specs.Stops.{IsImage, MayLeave}
@@ -27,18 +27,6 @@ own_left s all = record {
   n = 0;
   printed = sym (append-nil s.printed);
 }
-
--- an image is a list of bytes
-pub image_small : (bytes : List ℕ) (loose : List Bool) (image : List ℕ) → All (λ b. b < 256) bytes → IsImage bytes loose image → All (λ b. b < 256) image
-image_small [] [] [] small left = All-nil (λ b. b < 256)
-image_small [] [] (c ∷ image) small left = absurd left
-image_small [] (l ∷ loose) image small left = absurd left
-image_small (b ∷ bytes) [] image small left = absurd left
-image_small (b ∷ bytes) (true ∷ loose) [] small left = absurd left
-image_small (b ∷ bytes) (false ∷ loose) [] small left = absurd left
-image_small (b ∷ bytes) (true ∷ loose) (c ∷ image) small left = All-cons (λ b. b < 256) c image left.0 (image_small bytes loose image (All-tail (λ b. b < 256) b bytes small) left.1)
-image_small (b ∷ bytes) (false ∷ loose) (c ∷ image) small left =
-    All-cons (λ b. b < 256) c image (subst (λ (x : ℕ). x < 256) (sym left.0) (All-head (λ b. b < 256) b bytes small)) (image_small bytes loose image (All-tail (λ b. b < 256) b bytes small) left.1)
 
 -- where nothing is loose, there is no other image
 pub only_image : (bytes : List ℕ) (n : ℕ) (image : List ℕ) → n ≡ length bytes → IsImage bytes (replicate n false) image → image ≡ bytes
