@@ -1,7 +1,7 @@
 # Thin: each target is a line or two.
 DAY ?= examples/first.day
 
-.PHONY: demo build test try
+.PHONY: demo build test try bench
 
 # Proves and builds the program, and runs the first day through it.
 demo: build
@@ -14,6 +14,12 @@ build:
 test:
 	rt ci
 
-# Runs the program on a file in seconds, before any proof: make try DAY=FILE
+# Runs the program on a file before any proof: make try DAY=FILE
 try:
 	cd crates/dali && rt try -- day J < $(abspath $(DAY))
+
+# Times the proved program, the journal and the checker.
+bench: build
+	bench/day/run
+	bench/journal/run
+	bench/checker/run

@@ -11,6 +11,7 @@ pub struct StdinSource {
 }
 
 impl StdinSource {
+    /// Over this standard input, with no failure counted.
     pub fn new(stdin: Stdin) -> StdinSource {
         StdinSource { stdin, faults: 0 }
     }

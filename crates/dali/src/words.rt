@@ -6,7 +6,8 @@ use std::rt::Env;
 /// The longest word that is read in the first place; a longer one is read into twice the room.
 const ROOM: usize = 256;
 
-/// The words of the command line behind the program's name.
+/// The words of the command line behind the program's name. The error is want of memory, or a word that grows while it is
+/// read.
 pub fn read(rt: &impl Env, alloc: Global) -> Result<Words, OutOfMemory> {
     let mut words = Words::new(alloc);
     for place in 1..usize::MAX {

@@ -15,7 +15,7 @@ use Rattle.dali_desk.specs.declared.status.Status.{Status}
 use Rattle.dali_desk.specs.declared.status.Status.TheVariants.{Done, Usage, ReadFault, PrintFault, DiskFault, LongLine, LongFile, OutOfMemory}
 use Rattle.dali_desk.specs.TextOf.{answer_to, texts, text_of, plain_entry, plain_history}
 use Rattle.dali_desk.specs.DayRun.{EndsDay, TakesDay, PrintsDay, LeavesDay, DayRun}
-use Rattle.dali_desk.specs.Midday.{Quiet}
+use Rattle.dali_desk.specs.DaySoFar.{Quiet}
 use Rattle.dali_desk.proofs.Printing.{goes_on, goes_nowhere}
 
 -- the text and the state of one more entry
@@ -66,7 +66,7 @@ not_long k old new lines takes short =
     elim (takes.at.long) [
       | inl shown ↦ none_long (commands old.left) (k - 1) shorts (subst (λ xs. FirstIsLong (drop (k - 1) (commands xs))) (sym takes.moved) (shown new.left).long)
       | inr at_end ↦ none_long (commands old.left) (k - 1) shorts
-          (subst (λ xs. FirstIsLong (drop (k - 1) (commands xs))) (sym (takes.moved ∙ ap (λ xs. takes.taken ++ xs) at_end.1 ∙ append-nil takes.taken)) at_end.0.long)
+          (subst (λ xs. FirstIsLong (drop (k - 1) (commands xs))) (sym (takes.moved ∙ ap (λ xs. takes.taken ++ xs) at_end.end ∙ append-nil takes.taken)) at_end.long.long)
     ]
 
 not_past : (old new : Feed) (lines : List (List ℕ)) (takes : TakesDay old new lines LongFile) → length old.left ≤ MOST_OF_FILE → ⊥

@@ -8,7 +8,7 @@ use Rattle.dali_line.specs.Line.{MOST_OF_COMMAND, is_line}
 use Rattle.dali_line.specs.Commands.{commands, ended_commands}
 use Rattle.dali_line.specs.Lines.{Reader, FirstIsLong, IsLong, MOST_OF_FILE, BreaksOff, FindsLong, PassesLimit, WantsMemory, reached}
 use Rattle.dali_desk.specs.DayRun.{IsLongAt, ShowsLong, ShowsNoLong, BreaksAfter, LongAfter, PastLimit, StopsWithin}
-use Rattle.dali_desk.specs.Midday.{GoesOn, Reads}
+use Rattle.dali_desk.specs.DaySoFar.{GoesOn, Reads}
 use Rattle.dali_desk.proofs.ReadingOn.{going}
 use Rattle.dali_desk.proofs.Long.{IsBehind, behind, at_next, none_past_one, one_command_more, one_command_after}
 
@@ -94,11 +94,12 @@ found_long told old given reader new feed after reads running t stop =
       limit = omega (arith, reads.taken, stop.within, length-append reads.got stop.got);
       long = elim stop.long [
         | inl whatever ↦ inl (λ rest. long_in rest (whatever rest))
-        | inr at_end ↦ inr (
-          subst (λ xs. IsLongAt (reader.given + 1) (commands xs)) (append-nil (reads.got ++ stop.got))
-              (long_in [] (subst (λ xs. FirstIsLong (commands xs)) (sym (append-nil (reader.pending ++ stop.got))) at_end.0)),
-          at_end.1 t,
-        )
+        | inr at_end ↦ inr (record {
+          long = subst (λ xs. IsLongAt (reader.given + 1) (commands xs)) (append-nil (reads.got ++ stop.got))
+              (long_in [] (subst (λ xs. FirstIsLong (commands xs)) (sym (append-nil (reader.pending ++ stop.got))) at_end.long));
+          limit = omega (arith, reads.taken, at_end.within, length-append reads.got stop.got);
+          end = at_end.end t;
+        })
       ];
     }
 

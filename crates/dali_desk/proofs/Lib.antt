@@ -1,8 +1,8 @@
 pub mod Printing
-pub mod Formatted
+pub mod Sizes
 pub mod Stopping
 pub mod ReadingOn
 pub mod Long
 pub mod Endings
 pub mod Days
-pub mod Middays
+pub mod SoFar

@@ -4,7 +4,7 @@ use Rattle.dali_outside.specs.Outside.{Feed}
 use Rattle.dali_line.specs.Commands.{commands, ended_commands}
 use Rattle.dali_line.specs.Lines.{Reader, Gives, Ends, MeetsLine, MeetsLast, MeetsEnd, MOST_OF_FILE, reached}
 use Rattle.dali_desk.specs.DayRun.{IsFront, ReadsAll, StopsWithin}
-use Rattle.dali_desk.specs.Midday.{GoesOn, IsOver, IsFar, Reads}
+use Rattle.dali_desk.specs.DaySoFar.{GoesOn, IsOver, HasGiven, Reads}
 
 -- a cut of the bytes got, of what is pending and of whatever follows, after one more line
 step_on : (c : List ℕ → List (List ℕ)) (got : List ℕ) (given : List (List ℕ)) (pending more used left line rest : List ℕ) →
@@ -31,11 +31,11 @@ goes_on_line got given pending more used left line on parted first ended = recor
 
 -- a reader that is not over goes on
 pub going : (told : Bool) (old : Feed) (given : List (List ℕ)) (reader : Reader) (feed : Feed) → (reads : Reads told old given reader feed) → reader.over ≡ false → GoesOn reads.got given reader.pending
-going told old given reader feed reads running = subst (λ b. IsFar told b reads.got given reader.pending feed.left) running reads.far
+going told old given reader feed reads running = subst (λ b. HasGiven told b reads.got given reader.pending feed.left) running reads.far
 
 -- a reader that is over is over
 pub over : (told : Bool) (old : Feed) (given : List (List ℕ)) (reader : Reader) (feed : Feed) → (reads : Reads told old given reader feed) → reader.over ≡ true → IsOver told reads.got given feed.left
-over told old given reader feed reads ended = subst (λ b. IsFar told b reads.got given reader.pending feed.left) ended reads.far
+over told old given reader feed reads ended = subst (λ b. HasGiven told b reads.got given reader.pending feed.left) ended reads.far
 
 pub moves_on : (old got mid more new : List ℕ) → old ≡ got ++ mid → mid ≡ more ++ new → old ≡ (got ++ more) ++ new
 moves_on old got mid more new first second = first ∙ ap (λ xs. got ++ xs) second ∙ sym (append_assoc got more new)
@@ -63,7 +63,7 @@ reads_line told old given reader new feed after line reads running gives =
         moved = λ t. moves_on old.left reads.got feed.left next.1.got after.left (reads.moved t) (next.1.gets.moved t);
         taken = omega (arith, reads.taken, next.1.gets.taken, length-append reads.got next.1.got);
         within = next.1.gets.within;
-        far = subst (λ b. IsFar told b (reads.got ++ next.1.got) (given ++ line ∷ []) new.pending after.left) (sym next.0)
+        far = subst (λ b. HasGiven told b (reads.got ++ next.1.got) (given ++ line ∷ []) new.pending after.left) (sym next.0)
             (goes_on_line reads.got given reader.pending next.1.got next.1.used new.pending line on next.1.parted next.1.first next.1.ended);
       }
       | inr last ↦ record {
@@ -72,7 +72,7 @@ reads_line told old given reader new feed after line reads running gives =
         moved = λ t. moves_on old.left reads.got feed.left last.1.got after.left (reads.moved t) (last.1.gets.moved t);
         taken = omega (arith, reads.taken, last.1.gets.taken, length-append reads.got last.1.got);
         within = last.1.gets.within;
-        far = subst (λ b. IsFar told b (reads.got ++ last.1.got) (given ++ line ∷ []) new.pending after.left) (sym last.0)
+        far = subst (λ b. HasGiven told b (reads.got ++ last.1.got) (given ++ line ∷ []) new.pending after.left) (sym last.0)
             (record { whole = on.whole last.1.got ∙ ap (λ cs. given ++ cs) last.1.only; end = last.1.end });
       }
     ]

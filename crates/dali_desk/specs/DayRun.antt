@@ -65,12 +65,18 @@ pub record BreaksAfter (taken : List ℕ) (lines : List (List ℕ)) : Type 0 whe
   pub whole : lines ≡ ended_commands taken
   pub none_long : ShowsNoLong taken
 
+-- the end of input was met within the limit, and by it command k has a 201st byte
+pub record LongAtEnd (k : ℕ) (taken left : List ℕ) : Type 0 where
+  pub long : IsLongAt k (commands taken)
+  pub limit : length taken ≤ MOST_OF_FILE
+  pub end : left ≡ []
+
 -- the lines are the first k - 1 commands, and command k has a 201st byte, whatever follows the bytes taken, or by the
 -- end of input where that was met
 pub record LongAfter (k : ℕ) (taken left : List ℕ) (lines : List (List ℕ)) : Type 0 where
   pub next : k ≡ length lines + 1
   pub limit : length taken ≤ MOST_OF_FILE + 1
-  pub long : ShowsLong k taken ⊎ (IsLongAt k (commands taken) × (left ≡ []))
+  pub long : ShowsLong k taken ⊎ LongAtEnd k taken left
 
 -- one byte past the limit was taken, and the lines are the commands that an LF ended within it, so the next doesn't end
 -- there; no command is shown to be long

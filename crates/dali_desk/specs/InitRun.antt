@@ -1,8 +1,7 @@
 use Rattle.std.specs.Prelude.{◌≡◌, ◌⊎◌, ◌+◌, ◌≤◌, Bool, IsTrue, List, ℕ, [], ◌∷◌, ◌++◌, length}
 use Rattle.dali_outside.specs.Outside.{Sight, Rose, Goes, overlay}
-use Rattle.dali_outside.specs.Stops.{MightHaveLeft}
-use Rattle.dali_journal.specs.Holds.{Holds, head_text}
-use Rattle.dali_journal.specs.Appends.{AtRest}
+use Rattle.dali_journal.specs.Holds.{head_text}
+use Rattle.dali_journal.specs.Appends.{AtRest, EachHolds}
 use Rattle.dali_desk.specs.declared.status.Status.{Status}
 use Rattle.dali_desk.specs.declared.status.Status.TheVariants.{Done, Usage, ReadFault, PrintFault, DiskFault, LongLine, LongFile, OutOfMemory}
 
@@ -18,14 +17,14 @@ EndsInit LongFile = ⊥
 EndsInit OutOfMemory = ⊥
 
 -- What a run of `init` does. After Done nothing is loose and the device holds an empty journal of edition 1, and so does
--- every image that a stop may then leave; behind the first 17 bytes all stands as before. Any status but Done is DiskFault, which comes only where the count of disk
--- faults rose. A stop within the call isn't spoken of.
+-- every image that a stop may then leave; behind the first 17 bytes all stands as before. Any status but Done is
+-- DiskFault, which comes only where the count of disk faults rose. A stop within the call isn't spoken of.
 pub record InitRun (tells : Bool) (old new : Sight) (status : Status) : Type 0 where
   pub statuses : EndsInit status
   pub fault : status ≡ DiskFault → Rose old.disk_faults new.disk_faults
   pub done : IsTrue tells → status ≡ Done → AtRest 16 1 [] new
   pub bytes : IsTrue tells → status ≡ Done → new.bytes ≡ overlay old.bytes 0 (head_text ++ 0 ∷ 0 ∷ 0 ∷ 1 ∷ 0 ∷ [])
-  pub images : IsTrue tells → status ≡ Done → (image text : List ℕ) → MightHaveLeft new (length new.past) image text → Holds 1 [] image
+  pub images : IsTrue tells → status ≡ Done → EachHolds 1 [] new
   pub silent : IsTrue tells → new.printed ≡ old.printed
   pub goes : Goes old new
   pub syncs : new.syncs ≤ old.syncs + 1

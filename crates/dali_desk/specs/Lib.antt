@@ -2,7 +2,7 @@ pub mod Words
 pub mod StatusLine
 pub mod TextOf
 pub mod DayRun
-pub mod Midday
+pub mod DaySoFar
 pub mod InitRun
 pub use Rattle.dali_line.specs.Commands
 pub use Rattle.dali_line.specs.Line

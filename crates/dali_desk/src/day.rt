@@ -4,7 +4,7 @@ ghost use Rattle.dali_line.specs.Line.{is_line};
 ghost use Rattle.dali_line.specs.Lines.{MOST_OF_FILE};
 ghost use Rattle.dali_desk.specs.TextOf.{plain_entry};
 ghost use Rattle.dali_desk.specs.DayRun.{DayRun};
-ghost use Rattle.dali_desk.specs.Midday.{Midday, Answers, status_of_end};
+ghost use Rattle.dali_desk.specs.DaySoFar.{DaySoFar, Answers, status_of_end};
 
 use crate::status::Status;
 use dali_base::OutOfMemory;
@@ -42,8 +42,8 @@ fn take_next<S: Source, T: Site>(
     site: &mut T,
 ) -> Result<(), Status>
     requires counted { state.old.machine.commands ≡ lines.old.given }
-    ensures taken { (feed : Feed) (sight : Sight) → Midday S.tells T.tells feed sight lines.old state.old.machine (S.feed source.old) (T.sight site.old) → OnOk result (Midday S.tells T.tells feed sight lines.new state.new.machine (S.feed source.new) (T.sight site.new)) }
-    ensures ended { (feed : Feed) (sight : Sight) → Midday S.tells T.tells feed sight lines.old state.old.machine (S.feed source.old) (T.sight site.old) → IfErr result (DayRun S.tells T.tells feed (S.feed source.new) sight (T.sight site.new)) }
+    ensures taken { (feed : Feed) (sight : Sight) → DaySoFar S.tells T.tells feed sight lines.old state.old.machine (S.feed source.old) (T.sight site.old) → OnOk result (DaySoFar S.tells T.tells feed sight lines.new state.new.machine (S.feed source.new) (T.sight site.new)) }
+    ensures ended { (feed : Feed) (sight : Sight) → DaySoFar S.tells T.tells feed sight lines.old state.old.machine (S.feed source.old) (T.sight site.old) → IfErr result (DayRun S.tells T.tells feed (S.feed source.new) sight (T.sight site.new)) }
     ensures given { OnOk result (lines.new.given ≡ lines.old.given + 1) }
     ensures bounded { lines.new.given ≤ MOST_OF_FILE }
 {

@@ -14,8 +14,9 @@ use std::alloc::Global;
 /// Does what the words ask for, with `day` as its input and `site` as its disk and console, and answers how it ended.
 ///
 /// The table of words is defined in `specs/Words.antt`, what a run of `init` does in `specs/InitRun.antt`, and what
-/// one of `day` does in `specs/DayRun.antt`; a day doesn't open its journal yet, and is one of edition 1. With words that are none of the table nothing is read, written or printed. Where
-/// the words are `init JOURNAL SIZE`, the site's size is SIZE.
+/// one of `day` does in `specs/DayRun.antt`; a day doesn't use its journal yet, and is one of edition 1. With words that
+/// are none of the table nothing is read, written or printed. Where the words are `init JOURNAL SIZE`, the site's size
+/// is SIZE. A day that answers want of memory has taken and printed what came before.
 pub fn run<S: Source, T: Site>(alloc: Global, words: &Words, day: &mut S, site: &mut T) -> Status
     requires size { (size : ℕ) → IsJob words.now (Job.Init size) → (T.sight site.old).size ≡ size }
     ensures usage { (result ≡ Status.Usage) ↔ ((job : _) → IsJob words.now job → ⊥) }

@@ -11,10 +11,7 @@ pub(crate) fn make_journal<T: Site>(site: &mut T) -> Status
     ensures { InitRun T.tells (T.sight site.old) (T.sight site.new) result }
 {
     match format(site) {
-        Ok(()) => {
-            let _size = site.size();
-            Status::Done
-        }
+        Ok(()) => Status::Done,
         Err(DiskFault) => Status::DiskFault,
     }
 }

@@ -46,7 +46,11 @@ module _ (told : Bool) (old now : Reach) (line : Open) (at : AtEnd told old line
       got = at.midway.got;
       moved = at.midway.gets.moved;
       within = omega (arith, at.midway.gets.taken, at.midway.gets.within);
-      long = inr (subst FirstIsLong (sym (all_commands told old now line at.midway at.used)) is.1, at.end);
+      long = inr (record {
+        long = subst FirstIsLong (sym (all_commands told old now line at.midway at.used)) is.1;
+        within = omega (arith, at.midway.gets.taken, at.midway.gets.within);
+        end = at.end;
+      });
     },
   )
   last_stops number LongFile is = absurd is

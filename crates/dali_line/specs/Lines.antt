@@ -76,12 +76,18 @@ pub record BreaksOff (told : Bool) (old new : Reach) : Type 0 where
   pub none_ended : ended_commands (old.pending ++ got) ≡ []
   pub none_long : ¬ (IsLong (old.pending ++ got))
 
+-- the end of input was met within the limit, and by it the next command has a 201st byte
+pub record IsLongAtEnd (told : Bool) (got : List ℕ) (old new : Reach) : Type 0 where
+  pub long : FirstIsLong (commands (old.pending ++ got))
+  pub within : old.taken + length got ≤ MOST_OF_FILE
+  pub end : IsTrue told → new.left ≡ []
+
 -- the next command has a 201st byte, whatever follows, or by the end of input
 pub record FindsLong (told : Bool) (old new : Reach) : Type 0 where
   pub got : List ℕ
   pub moved : IsTrue told → old.left ≡ got ++ new.left
   pub within : old.taken + length got ≤ MOST_OF_FILE + 1
-  pub long : IsLong (old.pending ++ got) ⊎ (FirstIsLong (commands (old.pending ++ got)) × (IsTrue told → new.left ≡ []))
+  pub long : IsLong (old.pending ++ got) ⊎ IsLongAtEnd told got old new
 
 -- a byte past the limit was taken: no command had ended within the limit, and none was long
 pub record PassesLimit (told : Bool) (old new : Reach) : Type 0 where

@@ -54,9 +54,10 @@ impl Lines {
     /// after an earlier error.
     ///
     /// At most 67,108,864 bytes of the source are taken, and one more that shows that there is one.
-    /// `ReadFault` comes only where the source's count of faults rose, or stands at u64's last value. `LongLine` comes exactly where the next command has a 201st byte, whatever follows the bytes taken, or by
-    /// the end of input; it counts commands from 1. `LongFile` comes exactly where the next command doesn't end
-    /// within 67,108,864 bytes and one byte more was taken.
+    /// `ReadFault` comes only where the source's count of faults rose, or stands at u64's last value. `LongLine` comes
+    /// exactly where the next command has a 201st byte, whatever follows the bytes taken, or by the end of input where
+    /// that was met; it counts commands from 1. `LongFile` comes exactly where the next command doesn't end within
+    /// 67,108,864 bytes and one byte more was taken, which doesn't show that the command is long.
     pub fn next<S: Source>(&mut self, source: &mut S) -> Result<Option<Line>, LineEnd>
         ensures over { self.old.over ≡ true → (result ≡ Ok None) × (self.new ≡ self.old) × (source.new ≡ source.old) }
         ensures some { self.old.over ≡ false → IfOk result (λ o. IfSome o (λ line. Gives S.tells line self.old self.new (S.feed source.old) (S.feed source.new))) }

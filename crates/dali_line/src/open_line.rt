@@ -1,8 +1,7 @@
 ghost use Rattle.std.specs.Prelude.{◌≡◌, ◌↔◌, ◌+◌, ◌≤◌, ◌<◌, ◌==◌, ◌&&◌, List, ℕ, [], ◌++◌, true, false, length, IfOk, OnOk, OnErr, IfSome, IfNone, IsTrue, vec_capacity};
 ghost use Rattle.std.specs.Str.Lines.{strip_carriage_return};
 ghost use Rattle.dali_line.specs.Commands.{is_command};
-ghost use Rattle.dali_line.specs.Line.{is_line};
-ghost use Rattle.dali_line.specs.Line.{MOST_OF_COMMAND};
+ghost use Rattle.dali_line.specs.Line.{MOST_OF_COMMAND, is_line};
 ghost use Rattle.dali_line.specs.Open.{InOneLine, StandsFor, IsTooLong, nothing_open, is_comment as begins_comment};
 
 use dali_base::OutOfMemory;

@@ -21,7 +21,7 @@ fn faults(alloc: Global, call: u64) -> Result<Faults, OutOfMemory> {
     Ok(faults)
 }
 
-/// The first four commands, each with an LF behind it, and how the fifth call or an earlier one ended.
+/// The commands of the first five calls, each with an LF behind it, and how the call that gave none ended.
 fn commands(alloc: Global, source: &mut MemSource) -> Result<(Text, End), OutOfMemory> {
     let mut given = Text::new(alloc);
     let mut lines = Lines::new(alloc)?;

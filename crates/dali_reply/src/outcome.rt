@@ -14,7 +14,7 @@ use std::alloc::Global;
 const ROOM: usize = 32;
 
 /// The reply to the command of this number, counted from 1, that had this outcome: its lines, each ended by LF. They
-/// are defined in `specs/Reply.antt`.
+/// are defined in `specs/Reply.antt`. The error is want of memory.
 pub fn reply(alloc: Global, number: u64, outcome: &Outcome) -> Result<Text, OutOfMemory>
     ensures { IfOk result (λ text. text ≡ reply_text number outcome.now) }
 {

@@ -1,5 +1,5 @@
 use Rattle.std.proofs.Common.{arith}
-use Rattle.dali_desk.proofs.Middays.{day_unopened, midday_start}
+use Rattle.dali_desk.proofs.SoFar.{day_unopened, day_start}
 use Rattle.dali_desk.proofs.day.take_day.Goals as goal
 
 pub returns-in_default : goal.returns-in_default
@@ -7,7 +7,7 @@ returns-in_default g c = day_unopened g.S.Source.tells g.T.Site.tells (g.S.Sourc
 
 pub loop-status-init : goal.loop-status-init
 loop-status-init g c =
-    midday_start g.S.Source.tells g.T.Site.tells (g.S.Source.feed c.args.source.now) (g.T.Site.sight c.args.site.now) c.in-Ok.lines c.new-state.result.machine
+    day_start g.S.Source.tells g.T.Site.tells (g.S.Source.feed c.args.source.now) (g.T.Site.sight c.args.site.now) c.in-Ok.lines c.new-state.result.machine
     c.in-Ok.ensures c.new-state.ensures
 
 pub take_next-requires : goal.take_next-requires

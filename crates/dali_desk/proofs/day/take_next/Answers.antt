@@ -1,7 +1,7 @@
 use Rattle.std.proofs.Common.{◌≡◌, ◌∙◌, sym, ap, subst, false}
 use Rattle.std.specs.Prelude.{Err}
 use Rattle.dali_desk.specs.DayRun.{DayRun}
-use Rattle.dali_desk.proofs.Middays.{goes_on_day, ends_day, no_line, day_stopped, is_running}
+use Rattle.dali_desk.proofs.SoFar.{goes_on_day, ends_day, no_line, day_stopped, is_running}
 use Rattle.dali_desk.proofs.day.take_next.Goals as goal
 
 pub returns-in-Ok-Some-clause-taken : goal.returns-in-Ok-Some-clause-taken

@@ -1,5 +1,4 @@
 use Rattle.std.proofs.Common.{◌≡◌, []}
-use Rattle.dali_desk.proofs.Formatted.{rest_holds}
 use Rattle.dali_desk.proofs.init.make_journal.Goals as goal
 
 pub returns-in-Ok : goal.returns-in-Ok
@@ -8,7 +7,7 @@ returns-in-Ok g c = record {
   fault = λ told. absurd (cc told);
   done = λ tells told. c.in-Ok.ensures.empty tells;
   bytes = λ tells told. c.in-Ok.ensures.bytes tells;
-  images = λ tells told. rest_holds 16 1 [] (g.T.Site.sight c.format.new.site) (c.size-size.ensures.told tells) (c.in-Ok.ensures.empty tells);
+  images = λ tells told. c.in-Ok.ensures.images tells;
   silent = λ tells. c.format.ensures.silent tells;
   goes = c.format.ensures.goes;
   syncs = c.format.ensures.syncs;

@@ -1,13 +1,8 @@
-use Rattle.std.proofs.Common.{◌≡◌, ◌∙◌, ◌≤◌, ℕ, List, [], ◌∷◌, sym, ap, arith}
+use Rattle.std.proofs.Common.{◌≡◌, ◌∙◌, ℕ, sym, ap, arith}
 use Rattle.std.proofs.lemmas.Fmt.{decimal_injective}
 use Rattle.dali_outside.specs.Memory.{Board}
+use Rattle.dali_desk.proofs.Sizes.{third}
 use Rattle.dali_desk.proofs.tests.init.Goals as goal
-
-abbrev third : List (List ℕ) → List ℕ
-third [] = []
-third (a ∷ []) = []
-third (a ∷ b ∷ []) = []
-third (a ∷ b ∷ c ∷ rest) = c
 
 pub run-status-requires : goal.run-status-requires
 run-status-requires c = record {

@@ -26,9 +26,9 @@ pub record IsOver (told : Bool) (got : List ℕ) (given : List (List ℕ)) (left
   pub end : IsTrue told → left ≡ []
 
 -- what the bytes got gave, by whether the reader is over
-abbrev pub IsFar : Bool → Bool → List ℕ → List (List ℕ) → List ℕ → List ℕ → Type 0
-IsFar told false got given pending left = GoesOn got given pending
-IsFar told true got given pending left = IsOver told got given left
+abbrev pub HasGiven : Bool → Bool → List ℕ → List (List ℕ) → List ℕ → List ℕ → Type 0
+HasGiven told false got given pending left = GoesOn got given pending
+HasGiven told true got given pending left = IsOver told got given left
 
 -- how far the input was read since the start: these lines were given
 pub record Reads (told : Bool) (old : Feed) (given : List (List ℕ)) (reader : Reader) (feed : Feed) : Type 0 where
@@ -37,7 +37,7 @@ pub record Reads (told : Bool) (old : Feed) (given : List (List ℕ)) (reader : 
   pub moved : IsTrue told → old.left ≡ got ++ feed.left
   pub taken : reader.taken ≡ length got
   pub within : reader.taken ≤ MOST_OF_FILE
-  pub far : IsFar told reader.over got given reader.pending feed.left
+  pub far : HasGiven told reader.over got given reader.pending feed.left
 
 -- the disk and the counts since some moment
 pub record Quiet (told : Bool) (old new : Sight) : Type 0 where
@@ -47,7 +47,7 @@ pub record Quiet (told : Bool) (old new : Sight) : Type 0 where
 
 -- A day between two commands: these lines were taken since the start, the state is that of their history, and its text
 -- was printed.
-pub record Midday (source_tells site_tells : Bool) (old : Feed) (before : Sight) (reader : Reader) (machine : Machine) (feed : Feed) (sight : Sight) : Type 0 where
+pub record DaySoFar (source_tells site_tells : Bool) (old : Feed) (before : Sight) (reader : Reader) (machine : Machine) (feed : Feed) (sight : Sight) : Type 0 where
   pub lines : List (List ℕ)
   pub are : All (λ line. IsTrue (is_line line)) lines
   pub reads : Reads source_tells old lines reader feed

@@ -16,15 +16,15 @@ use Rattle.dali_desk.specs.declared.status.Status.{Status}
 use Rattle.dali_desk.specs.declared.status.Status.TheVariants.{Done, Usage, ReadFault, PrintFault, DiskFault, LongLine, LongFile, OutOfMemory}
 use Rattle.dali_desk.specs.TextOf.{answer_to, texts, text_of, plain_entry, plain_history}
 use Rattle.dali_desk.specs.DayRun.{TakenAt, TakesDay, PrintsDay, PrintsFront, LeavesDay, DayRun}
-use Rattle.dali_desk.specs.Midday.{Reads, Quiet, Midday, TakesCommand, PrintsInPart, Answers, status_of_end}
+use Rattle.dali_desk.specs.DaySoFar.{Reads, Quiet, DaySoFar, TakesCommand, PrintsInPart, Answers, status_of_end}
 use Rattle.dali_desk.proofs.Printing.{front_behind}
 use Rattle.dali_desk.proofs.Stopping.{stops_start, stops_more}
 use Rattle.dali_desk.proofs.ReadingOn.{reads_start, reads_line, reads_first, reads_within, without_last, all_read, all_over, moves_on}
 use Rattle.dali_desk.proofs.Endings.{all_short, broken_off, past_limit, found_long, wants_memory}
 use Rattle.dali_desk.proofs.Days.{texts_more, state_more, plain_more, quiet_start, quiet_on, ended}
 
-pub midday_start : (s t : Bool) (feed : Feed) (sight : Sight) (reader : Reader) (machine : Machine) → reader ≡ record { pending = []; taken = 0; given = 0; over = false } → machine ≡ opening → Midday s t feed sight reader machine feed sight
-midday_start s t feed sight reader machine new first = subst (λ r. Midday s t feed sight r machine feed sight) (sym new) (subst (λ m. Midday s t feed sight (record { pending = []; taken = 0; given = 0; over = false }) m feed sight) (sym first) (record {
+pub day_start : (s t : Bool) (feed : Feed) (sight : Sight) (reader : Reader) (machine : Machine) → reader ≡ record { pending = []; taken = 0; given = 0; over = false } → machine ≡ opening → DaySoFar s t feed sight reader machine feed sight
+day_start s t feed sight reader machine new first = subst (λ r. DaySoFar s t feed sight r machine feed sight) (sym new) (subst (λ m. DaySoFar s t feed sight (record { pending = []; taken = 0; given = 0; over = false }) m feed sight) (sym first) (record {
   lines = [];
   are = All-nil (λ line. IsTrue (is_line line));
   reads = reads_start s feed;
@@ -45,18 +45,18 @@ text_more lines line machine is =
 
 -- what stops leave, with the reply to one more line
 one_more_stops : (s t : Bool) (old : Feed) (before : Sight) (reader : Reader) (machine : Machine) (feed : Feed) (sight then : Sight) (line : List ℕ) →
-    (day : Midday s t old before reader machine feed sight) → (IsTrue t → LeavesOnly (LeavesDay sight (answer_to machine (plain_entry line))) sight then) → IsTrue t →
+    (day : DaySoFar s t old before reader machine feed sight) → (IsTrue t → LeavesOnly (LeavesDay sight (answer_to machine (plain_entry line))) sight then) → IsTrue t →
     LeavesOnly (LeavesDay before (text_of (plain_history (day.lines ++ line ∷ [])))) before then
 one_more_stops s t old before reader machine feed sight then line day stops told =
     subst (λ text. LeavesOnly (LeavesDay before text) before then) (sym (text_more day.lines line machine day.state))
     (stops_more (text_of (plain_history day.lines)) (answer_to machine (plain_entry line)) before sight then (day.stops told) (stops told) (day.quiet.disk told) (day.text told))
 
 -- one more command was taken
-pub midday_more : (s t : Bool) (old : Feed) (before : Sight) (reader new : Reader) (machine next : Machine) (feed after : Feed) (sight then : Sight) (line : List ℕ) →
-    Midday s t old before reader machine feed sight → reader.over ≡ false → Gives s line reader new feed after → feed.faults ≤ after.faults → IsTrue (is_line line) →
+pub day_more : (s t : Bool) (old : Feed) (before : Sight) (reader new : Reader) (machine next : Machine) (feed after : Feed) (sight then : Sight) (line : List ℕ) →
+    DaySoFar s t old before reader machine feed sight → reader.over ≡ false → Gives s line reader new feed after → feed.faults ≤ after.faults → IsTrue (is_line line) →
     Quiet t sight then → (IsTrue t → LeavesOnly (LeavesDay sight (answer_to machine (plain_entry line))) sight then) → TakesCommand t (plain_entry line) machine next sight then →
-    Midday s t old before new next after then
-midday_more s t old before reader new machine next feed after sight then line day running gives faults is quiet stops takes = record {
+    DaySoFar s t old before new next after then
+day_more s t old before reader new machine next feed after sight then line day running gives faults is quiet stops takes = record {
   lines = day.lines ++ line ∷ [];
   are = All-push (λ l. IsTrue (is_line l)) day.lines line day.are is;
   reads = reads_line s old day.lines reader new feed after line day.reads running gives;
@@ -72,7 +72,7 @@ midday_more s t old before reader new machine next feed after sight then line da
 
 -- the end of input, met now
 pub day_done : (s t : Bool) (old : Feed) (before : Sight) (reader new : Reader) (machine : Machine) (feed after : Feed) (sight : Sight) →
-    Midday s t old before reader machine feed sight → reader.over ≡ false → Ends s reader new feed after → feed.faults ≤ after.faults → DayRun s t old after before sight Done
+    DaySoFar s t old before reader machine feed sight → reader.over ≡ false → Ends s reader new feed after → feed.faults ≤ after.faults → DayRun s t old after before sight Done
 day_done s t old before reader new machine feed after sight day running end faults =
     ended s t old after before sight Done tt (λ is. absurd (Prim.cc)) (λ is. absurd (Prim.cc)) (omega (arith, day.faults, faults)) day.quiet day.lines day.are
     (λ told. record {
@@ -84,7 +84,7 @@ day_done s t old before reader new machine feed after sight day running end faul
 
 -- the end of input, met behind the last command
 pub day_over : (s t : Bool) (old : Feed) (before : Sight) (reader : Reader) (machine : Machine) (feed : Feed) (sight : Sight) →
-    Midday s t old before reader machine feed sight → reader.over ≡ true → DayRun s t old feed before sight Done
+    DaySoFar s t old before reader machine feed sight → reader.over ≡ true → DayRun s t old feed before sight Done
 day_over s t old before reader machine feed sight day over =
     ended s t old feed before sight Done tt (λ is. absurd (Prim.cc)) (λ is. absurd (Prim.cc)) day.faults day.quiet day.lines day.are
     (λ told. record {
@@ -96,7 +96,7 @@ day_over s t old before reader machine feed sight day over =
 
 -- the reader of lines stopped
 pub day_stopped : (s t : Bool) (old : Feed) (before : Sight) (reader new : Reader) (machine : Machine) (feed after : Feed) (sight : Sight) (end : LineEnd) →
-    Midday s t old before reader machine feed sight → reader.over ≡ false → Stops s (reader.given + 1) (reached reader feed) (reached new after) end → feed.faults ≤ after.faults →
+    DaySoFar s t old before reader machine feed sight → reader.over ≡ false → Stops s (reader.given + 1) (reached reader feed) (reached new after) end → feed.faults ≤ after.faults →
     (end ≡ ends.ReadFault → Rose feed.faults after.faults) → DayRun s t old after before sight (status_of_end end)
 day_stopped s t old before reader new machine feed after sight ends.ReadFault day running stop faults rose =
     ended s t old after before sight ReadFault tt (λ is. omega (arith, rose refl, day.faults)) (λ is. absurd (Prim.cc)) (omega (arith, day.faults, faults)) day.quiet day.lines day.are
@@ -134,7 +134,7 @@ day_stopped s t old before reader new machine feed after sight ends.OutOfMemory 
 
 -- memory was wanted for a command that was read
 pub day_wants : (s t : Bool) (old : Feed) (before : Sight) (reader new : Reader) (machine : Machine) (feed after : Feed) (sight then : Sight) (line : List ℕ) →
-    Midday s t old before reader machine feed sight → reader.over ≡ false → Gives s line reader new feed after → feed.faults ≤ after.faults →
+    DaySoFar s t old before reader machine feed sight → reader.over ≡ false → Gives s line reader new feed after → feed.faults ≤ after.faults →
     then ≡ sight → DayRun s t old after before then OutOfMemory
 day_wants s t old before reader new machine feed after sight then line day running gives faults same =
     let reads = reads_line s old day.lines reader new feed after line day.reads running gives in
@@ -150,7 +150,7 @@ day_wants s t old before reader new machine feed after sight then line day runni
 
 -- a reply could not be printed
 pub day_unprinted : (s t : Bool) (old : Feed) (before : Sight) (reader new : Reader) (machine : Machine) (feed after : Feed) (sight then : Sight) (line : List ℕ) →
-    Midday s t old before reader machine feed sight → reader.over ≡ false → Gives s line reader new feed after → feed.faults ≤ after.faults → IsTrue (is_line line) →
+    DaySoFar s t old before reader machine feed sight → reader.over ≡ false → Gives s line reader new feed after → feed.faults ≤ after.faults → IsTrue (is_line line) →
     Quiet t sight then → (IsTrue t → LeavesOnly (LeavesDay sight (answer_to machine (plain_entry line))) sight then) → PrintsInPart t (plain_entry line) machine sight then →
     DayRun s t old after before then PrintFault
 day_unprinted s t old before reader new machine feed after sight then line day running gives faults is quiet stops breaks =
@@ -182,14 +182,14 @@ is_running false r over other = refl
 -- what taking a command comes to
 pub goes_on_day : (s t : Bool) (old : Feed) (before : Sight) (reader new : Reader) (machine next : Machine) (feed after : Feed) (sight then : Sight) (line : List ℕ) (result : Result Unit Status) →
     reader.over ≡ false → Gives s line reader new feed after → feed.faults ≤ after.faults → IsTrue (is_line line) → Answers t (plain_entry line) machine next sight then result →
-    Midday s t old before reader machine feed sight → OnOk result (Midday s t old before new next after then)
+    DaySoFar s t old before reader machine feed sight → OnOk result (DaySoFar s t old before new next after then)
 goes_on_day s t old before reader new machine next feed after sight then line (Ok u) running gives faults is answers day =
-    midday_more s t old before reader new machine next feed after sight then line day running gives faults is answers.quiet answers.stops answers.came
+    day_more s t old before reader new machine next feed after sight then line day running gives faults is answers.quiet answers.stops answers.came
 goes_on_day s t old before reader new machine next feed after sight then line (Err e) running gives faults is answers day = tt
 
 pub ends_day : (s t : Bool) (old : Feed) (before : Sight) (reader new : Reader) (machine next : Machine) (feed after : Feed) (sight then : Sight) (line : List ℕ) (result : Result Unit Status) →
     reader.over ≡ false → Gives s line reader new feed after → feed.faults ≤ after.faults → IsTrue (is_line line) → Answers t (plain_entry line) machine next sight then result →
-    Midday s t old before reader machine feed sight → IfErr result (DayRun s t old after before then)
+    DaySoFar s t old before reader machine feed sight → IfErr result (DayRun s t old after before then)
 ends_day s t old before reader new machine next feed after sight then line (Ok u) running gives faults is answers day = tt
 ends_day s t old before reader new machine next feed after sight then line (Err PrintFault) running gives faults is answers day =
     day_unprinted s t old before reader new machine feed after sight then line day running gives faults is answers.quiet answers.stops answers.came
@@ -205,7 +205,7 @@ ends_day s t old before reader new machine next feed after sight then line (Err 
 -- the reader gives no line
 pub no_line : (s t : Bool) (old : Feed) (before : Sight) (reader new : Reader) (machine : Machine) (feed after : Feed) (sight : Sight) →
     (reader.over ≡ true → (new ≡ reader) × (after ≡ feed)) → (reader.over ≡ false → Ends s reader new feed after) → feed.faults ≤ after.faults →
-    Midday s t old before reader machine feed sight → DayRun s t old after before sight Done
+    DaySoFar s t old before reader machine feed sight → DayRun s t old after before sight Done
 no_line s t old before reader new machine feed after sight over ends faults day =
     elim (reader.over) as (λ b. reader.over ≡ b → DayRun s t old after before sight Done) [
       | true ↦ λ is. subst (λ f. DayRun s t old f before sight Done) (sym (over is).1) (day_over s t old before reader machine feed sight day is)
