@@ -4,6 +4,7 @@ pub mod Whole
 pub mod Bends
 pub mod Weak
 pub mod Bounds
+pub mod Parts
 pub mod Touching
 pub mod Shifts
 pub mod Moved

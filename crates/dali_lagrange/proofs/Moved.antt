@@ -93,7 +93,7 @@ sum_moved p f point values l from to size within kept =
     omega (arith, ints, lines_to, lines_from, apart, touched, each, places, whole_to, whole_from)
 
 -- sizes
-effects_weight : (m : ℕ) (lam : ℕ → ℕ) (es : List Effect) → ((l : ℕ) → lam l ≤ 2 ^ 44) → All (λ e. Within m e.amount) es →
+pub effects_weight : (m : ℕ) (lam : ℕ → ℕ) (es : List Effect) → ((l : ℕ) → lam l ≤ 2 ^ 44) → All (λ e. Within m e.amount) es →
     Within (length es * (2 ^ 44 * m)) (sum_over (λ e. pos (lam e.line) *ℤ e.amount) es)
 effects_weight m lam [] bounded small = record { low = omega (arith, ints); high = omega (arith, ints) }
 effects_weight m lam (e ∷ es) bounded small =

@@ -23,12 +23,6 @@ pub falls_with : (p : Clearing) (f : List Mark) (point : List ℕ) (l m : ℕ) �
 falls_with p f point l m down =
     record { falls = λ x below. falls_to (sum_with p f point l) m (convex_with p f point l) down x (omega (arith, below)) }
 
-pub falls_none : (p : Clearing) (f : List Mark) (point : List ℕ) (l : ℕ) → FallsTo p f point l 0
-falls_none p f point l = record { falls = λ x below. absurd (omega (arith, below)) }
-
-pub rises_none : (p : Clearing) (f : List Mark) (point : List ℕ) (l : ℕ) → RisesFrom p f point l (2 ^ 44)
-rises_none p f point l = record { rises = λ x past below. absurd (omega (arith, past, below)) }
-
 -- where it falls up to a number and rises from there, that number is the best
 pub best_of : (p : Clearing) (f : List Mark) (point : List ℕ) (l m : ℕ) → m ≤ 2 ^ 44 → FallsTo p f point l m → RisesFrom p f point l m → IsBestAt p f point l m
 best_of p f point l m within before behind =

@@ -8,9 +8,10 @@ use crate::total::sum_at;
 use dali_problem::{Partial, Problem};
 
 /// The greatest multiplier.
-pub(crate) const MOST: u64 = 1 << 44;
+pub(crate) const GREATEST_MULTIPLIER: u64 = 1 << 44;
 
-/// The least of the multipliers from 0 to 2^44 that give the smallest Sum, with those of the other lines kept.
+/// The least of the multipliers from 0 to 2^44 that give the smallest Sum, with those of the other lines kept, as
+/// `specs/Best.antt` defines it.
 pub fn best_at(problem: &Problem, partial: &Partial, point: &Point, line: u32) -> u64
     requires partial { IsOf problem.now partial.now }
     requires point { length point.now ≡ length problem.now.lines }
@@ -18,7 +19,7 @@ pub fn best_at(problem: &Problem, partial: &Partial, point: &Point, line: u32) -
     ensures { IsBestAt problem.now partial.now.marks point.now line result }
 {
     let mut low = 0;
-    let mut high = MOST;
+    let mut high = GREATEST_MULTIPLIER;
     'search: while low < high {
         let middle = low + (high - low) / 2;
         if is_rising(problem, partial, point, line, middle) {

@@ -44,7 +44,7 @@ impl Model for Kept {
 }
 
 impl Kept {
-    /// The members of a problem, all undecided, with all multipliers 0.
+    /// The members of a problem, all undecided, with all multipliers 0. Answers only want of memory but Ok.
     pub fn new(alloc: Global, problem: &Problem, members: &Places) -> Result<Kept, OutOfMemory>
         requires { All (λ j. j < length problem.now.items) members.now }
         ensures of { IfOk result (λ kept. IsSumOf problem.now kept) }
@@ -152,7 +152,7 @@ impl Kept {
         total
     }
 
-    /// Gives a line this multiplier. Nothing else changes. Costs what touches the line.
+    /// Gives a line this multiplier, at most 2^44. Nothing else changes. Costs what touches the line.
     pub fn set(&mut self, problem: &Problem, line: u32, to: u64)
         requires of { IsSumOf problem.now self.old }
         requires line { line < length problem.now.lines }
@@ -161,10 +161,26 @@ impl Kept {
         ensures multipliers { self.new.multipliers ≡ slice_set self.old.multipliers line to }
         ensures of { IsSumOf problem.now self.new }
     {
+        let rise = self.rise(problem, line, self.multiplier(line), to);
+        self.set_with_rise(problem, line, to, &rise);
+    }
+
+    /// The same, where it is known how much the Sum rises.
+    pub(crate) fn set_with_rise(&mut self, problem: &Problem, line: u32, to: u64, rise: &i128)
+        requires of { IsSumOf problem.now self.old }
+        requires line { line < length problem.now.lines }
+        requires bounded { to ≤ 2 ^ 44 }
+        requires rise { rise.now
+            ≡ sum_with problem.now self.old.marks self.old.multipliers line to
+            -ℤ sum_with problem.now self.old.marks self.old.multipliers line (slice_index self.old.multipliers line) }
+        requires rise_bounded { Within (2 ^ 116) rise.now }
+        ensures marks { self.new.marks ≡ self.old.marks }
+        ensures multipliers { self.new.multipliers ≡ slice_set self.old.multipliers line to }
+        ensures of { IsSumOf problem.now self.new }
+    {
         let _items = problem.items();
         let now = self.multipliers[line as usize];
-        let rise = self.rise(problem, line, now, to);
-        plus(&mut self.total, &rise);
+        plus(&mut self.total, rise);
         shift_touched(
             self.reduced.as_mut_slice(),
             self.columns.touching(line),
@@ -173,7 +189,8 @@ impl Kept {
         self.multipliers[line as usize] = to;
     }
 
-    /// Takes on these multipliers. A line that isn't listed gets 0. Costs what touches the lines that change.
+    /// Takes on these multipliers, each at most 2^44, on rising lines. A line that isn't listed gets 0. Costs what touches
+    /// the lines that change.
     pub fn load(&mut self, problem: &Problem, lam: &Lam)
         requires of { IsSumOf problem.now self.old }
         requires lam { AreMultipliers (length problem.now.lines) lam.now }
@@ -211,7 +228,7 @@ impl Kept {
         self.marks[place as usize]
     }
 
-    /// The multiplier of a line.
+    /// The multiplier of a line, at most 2^44.
     pub fn multiplier(&self, line: u32) -> u64
         requires { line < length self.now.multipliers }
         ensures value { result ≡ slice_index self.now.multipliers line }
@@ -220,8 +237,8 @@ impl Kept {
         self.multipliers[line as usize]
     }
 
-    /// The value of a place on the scale of 4,096, with what its effects are worth at the multipliers. It is at most
-    /// 2^103 in size.
+    /// The value of a place on the scale of 4,096, with what its effects are worth at the multipliers, as
+    /// `specs/Bound.antt` defines it. It is at most 2^103 in size.
     pub fn reduced(&self, place: u32) -> i128
         requires { place < length self.now.reduced }
         ensures exact { (p : Clearing) → IsSumOf p self.now → result ≡ reduced p (slice_index self.now.multipliers) place }
@@ -230,7 +247,7 @@ impl Kept {
         self.reduced[place as usize]
     }
 
-    /// The Sum of the marks at the multipliers. It is below 2^117 in size.
+    /// The Sum of the marks at the multipliers, as `specs/Bound.antt` defines it. It is below 2^117 in size.
     pub fn sum(&self) -> i128
         ensures exact { (p : Clearing) → IsSumOf p self.now → result ≡ sum_of p self.now.marks (slice_index self.now.multipliers) }
         ensures bounded { Within (2 ^ 117 - 1) result }

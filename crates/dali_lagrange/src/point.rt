@@ -9,7 +9,7 @@ use dali_tree::Lam;
 use std::alloc::Global;
 use std::marker::Model;
 
-/// One multiplier for each line of a problem.
+/// One multiplier for each line of a problem, each at most 2^44.
 #[derive(Debug, Drop)]
 pub struct Point {
     multipliers: Vec<u64>,
@@ -27,7 +27,7 @@ impl Model for Point {
 }
 
 impl Point {
-    /// A multiplier of 0 for each line of the problem.
+    /// A multiplier of 0 for each line of the problem. Answers only want of memory but Ok.
     pub fn new(alloc: Global, problem: &Problem) -> Result<Point, OutOfMemory>
         ensures { IfOk result (λ point. point ≡ replicate (length problem.now.lines) 0) }
     {
@@ -36,7 +36,7 @@ impl Point {
         })
     }
 
-    /// Takes on these multipliers. A line that isn't listed gets 0.
+    /// Takes on these multipliers, each at most 2^44, on rising lines. A line that isn't listed gets 0.
     pub fn load(&mut self, lam: &Lam)
         requires { AreMultipliers (length self.old) lam.now }
         ensures lines { length self.new ≡ length self.old }
@@ -47,12 +47,13 @@ impl Point {
 
     /// The number of lines.
     pub(crate) fn len(&self) -> usize
-        ensures { result ≡ length self.now }
+        ensures count { result ≡ length self.now }
+        ensures bounded { All (λ m. m ≤ 2 ^ 44) self.now }
     {
         self.multipliers.len()
     }
 
-    /// The multiplier of a line.
+    /// The multiplier of a line, at most 2^44.
     pub fn get(&self, line: u32) -> u64
         requires { line < length self.now }
         ensures value { result ≡ slice_index self.now line }
@@ -61,7 +62,7 @@ impl Point {
         self.multipliers[line as usize]
     }
 
-    /// Gives a line this multiplier. No other line changes.
+    /// Gives a line this multiplier, at most 2^44. No other line changes.
     pub fn set(&mut self, line: u32, to: u64)
         requires line { line < length self.old }
         requires bounded { to ≤ 2 ^ 44 }

@@ -1,4 +1,5 @@
 ghost use Rattle.std.specs.Prelude.{◌≡◌, ◌^◌, ◌<◌, ◌≤◌, length, slice_index, slice_set};
+ghost use Rattle.std.specs.List.{All};
 
 use crate::point::Point;
 use std::marker::Model;
@@ -25,7 +26,8 @@ impl<'a> Model for Probe<'a> {
 impl<'a> Probe<'a> {
     /// The point as it is.
     pub(crate) fn of(point: &'a Point) -> Probe<'a>
-        ensures { result ≡ point.now }
+        ensures same { result ≡ point.now }
+        ensures bounded { All (λ m. m ≤ 2 ^ 44) point.now }
     {
         Probe {
             point,

@@ -1,22 +1,31 @@
-ghost use Rattle.std.specs.Prelude.{◌≡◌, ℕ, ◌+◌, ◌-◌, ◌^◌, ◌<◌, ◌≤◌, ◌↔◌, ◌+ℤ◌, ◌≤ℤ◌, length, slice_index, IsTrue, IsFalse, IfSome, IfNone};
+ghost use Rattle.std.specs.Prelude.{◌≡◌, ℕ, ◌+◌, ◌-◌, ◌^◌, ◌<◌, ◌≤◌, ◌↔◌, ◌+ℤ◌, ◌-ℤ◌, ◌≤ℤ◌, length, slice_index, IsTrue, IsFalse, IfSome, IfNone};
 ghost use Rattle.dali_problem.specs.Limits.{Within};
 ghost use Rattle.dali_lagrange.specs.Best.{sum_with, IsBestAt, FallsTo, RisesFrom, IsBracket};
 ghost use Rattle.dali_lagrange.specs.KeptSum.{IsSumOf};
 ghost use Rattle.dali_lagrange.specs.Settled.{is_settled};
 ghost use Rattle.dali_lagrange.specs.Still.{IsGain, IsStillAt, IsStill};
 
-use crate::best::{MOST, is_at_most};
+use crate::best::{GREATEST_MULTIPLIER, is_at_most};
 use crate::kept::Kept;
 use dali_problem::Problem;
 
 /// A Sum below this isn't settled further.
-pub(crate) const LEAST: i128 = 4096;
+pub(crate) const SETTLED_BELOW: i128 = 4096;
 
-/// A change of a multiplier counts where it takes this part of the Sum.
-const PART: i128 = 1024;
+/// A change of a multiplier is a gain where it takes at least one of so many equal parts of the Sum.
+const GAIN_PART: i128 = 1024;
 
-/// How far from a line's multiplier its best one is looked for first.
-const NEAR: u64 = 1 << 16;
+/// How far from a line's multiplier its best one is looked for first, and by what this range grows where it isn't there.
+const NEAR_RANGE: u64 = 1 << 16;
+
+/// A multiplier of a line that gives a gain.
+#[derive(Clone, Copy)]
+pub(crate) struct Gain {
+    /// The multiplier.
+    pub(crate) to: u64,
+    /// How much the Sum rises where the line gets it: below 0.
+    pub(crate) rise: i128,
+}
 
 /// A range of multipliers in which the best one of a line lies.
 #[derive(Clone, Copy)]
@@ -26,14 +35,17 @@ struct Bracket {
 }
 
 impl Kept {
-    /// The least of the multipliers from 0 to 2^44 that give the smallest Sum, with those of the other lines kept.
-    /// It halves these numbers, and looks at what touches the line at each halving.
+    /// The least of the multipliers from 0 to 2^44 that give the smallest Sum, with those of the other lines kept, as
+    /// `specs/Best.antt` defines it. It halves these numbers, and looks at what touches the line at each halving.
     pub fn best_at(&self, problem: &Problem, line: u32) -> u64
         requires of { IsSumOf problem.now self.now }
         requires line { line < length problem.now.lines }
         ensures { IsBestAt problem.now self.now.marks self.now.multipliers line result }
     {
-        let all = Bracket { low: 0, high: MOST };
+        let all = Bracket {
+            low: 0,
+            high: GREATEST_MULTIPLIER,
+        };
         self.best_within(problem, line, all)
     }
 
@@ -56,8 +68,8 @@ impl Kept {
         low
     }
 
-    /// Where the best multiplier of the line lies, or `None` where the line has it. Two looks at what touches the line
-    /// tell whether it has.
+    /// Where the least best multiplier of the line lies, or `None` where the line has it. Two looks at what touches the
+    /// line tell whether it has.
     fn bracket(&self, problem: &Problem, line: u32) -> Option<Bracket>
         requires of { IsSumOf problem.now self.now }
         requires line { line < length problem.now.lines }
@@ -83,7 +95,7 @@ impl Kept {
         ensures falls { IsTrue result → FallsTo problem.now self.now.marks self.now.multipliers line (at + 1) }
         ensures rises { IsFalse result → RisesFrom problem.now self.now.marks self.now.multipliers line at }
     {
-        if at >= MOST {
+        if at >= GREATEST_MULTIPLIER {
             return false;
         }
         !self.is_rising(problem, line, at)
@@ -104,48 +116,49 @@ impl Kept {
         self.is_rising(problem, line, at - 1)
     }
 
-    /// Where the best multiplier lies, where the Sum falls up to `low`: near it or far from it.
-    fn bracket_above(&self, problem: &Problem, line: u32, low: u64) -> Bracket
+    /// Where the best multiplier lies, where the Sum falls up to `from`. It is looked for in ranges that widen.
+    fn bracket_above(&self, problem: &Problem, line: u32, from: u64) -> Bracket
         requires of { IsSumOf problem.now self.now }
         requires line { line < length problem.now.lines }
-        requires within { low ≤ 2 ^ 44 }
-        requires falls { FallsTo problem.now self.now.marks self.now.multipliers line low }
+        requires within { from ≤ 2 ^ 44 }
+        requires falls { FallsTo problem.now self.now.marks self.now.multipliers line from }
         ensures { IsBracket problem.now self.now.marks self.now.multipliers line result.low result.high }
     {
-        if MOST - low <= NEAR {
-            return Bracket { low, high: MOST };
-        }
-        let near = low + NEAR;
-        if self.is_rising(problem, line, near) {
-            Bracket { low, high: near }
-        } else {
-            Bracket {
-                low: near + 1,
-                high: MOST,
+        let mut low = from;
+        let mut reach = NEAR_RANGE;
+        'widen: while reach < GREATEST_MULTIPLIER - low {
+            let end = low + reach;
+            if self.is_rising(problem, line, end) {
+                return Bracket { low, high: end };
             }
+            low = end + 1;
+            reach *= NEAR_RANGE;
+        }
+        Bracket {
+            low,
+            high: GREATEST_MULTIPLIER,
         }
     }
 
-    /// Where the best multiplier lies, where the Sum doesn't fall from `high` on: near it or far from it.
-    fn bracket_below(&self, problem: &Problem, line: u32, high: u64) -> Bracket
+    /// Where the best multiplier lies, where the Sum doesn't fall from `from` on. It is looked for in ranges that widen.
+    fn bracket_below(&self, problem: &Problem, line: u32, from: u64) -> Bracket
         requires of { IsSumOf problem.now self.now }
         requires line { line < length problem.now.lines }
-        requires within { high ≤ 2 ^ 44 }
-        requires rises { RisesFrom problem.now self.now.marks self.now.multipliers line high }
+        requires within { from ≤ 2 ^ 44 }
+        requires rises { RisesFrom problem.now self.now.marks self.now.multipliers line from }
         ensures { IsBracket problem.now self.now.marks self.now.multipliers line result.low result.high }
     {
-        if high <= NEAR {
-            return Bracket { low: 0, high };
-        }
-        let near = high - NEAR;
-        if self.is_rising(problem, line, near) {
-            Bracket { low: 0, high: near }
-        } else {
-            Bracket {
-                low: near + 1,
-                high,
+        let mut high = from;
+        let mut reach = NEAR_RANGE;
+        'widen: while reach < high {
+            let end = high - reach;
+            if !self.is_rising(problem, line, end) {
+                return Bracket { low: end + 1, high };
             }
+            high = end;
+            reach *= NEAR_RANGE;
         }
+        Bracket { low: 0, high }
     }
 
     /// Whether one more on this line doesn't make the Sum smaller.
@@ -162,18 +175,22 @@ impl Kept {
     }
 
     /// A multiplier of the line that gives a gain, or `None` exactly where there is none.
-    pub(crate) fn gain_at(&self, problem: &Problem, line: u32) -> Option<u64>
+    pub(crate) fn gain_at(&self, problem: &Problem, line: u32) -> Option<Gain>
         requires of { IsSumOf problem.now self.now }
         requires line { line < length problem.now.lines }
-        ensures some { IfSome result (λ x. x ≤ 2 ^ 44) }
-        ensures gain { IfSome result (λ x. IsGain self.now.total (sum_with problem.now self.now.marks self.now.multipliers line x)) }
+        ensures some { IfSome result (λ gain. gain.to ≤ 2 ^ 44) }
+        ensures rise { IfSome result (λ gain. gain.rise
+            ≡ sum_with problem.now self.now.marks self.now.multipliers line gain.to
+            -ℤ sum_with problem.now self.now.marks self.now.multipliers line (slice_index self.now.multipliers line)) }
+        ensures bounded { IfSome result (λ gain. Within (2 ^ 116) gain.rise) }
+        ensures gain { IfSome result (λ gain. IsGain self.now.total (sum_with problem.now self.now.marks self.now.multipliers line gain.to)) }
         ensures none { IfNone result (IsStillAt problem.now self.now.marks self.now.multipliers self.now.total line) }
     {
         let bracket = self.bracket(problem, line)?;
         let best = self.best_within(problem, line, bracket);
         let rise = self.rise(problem, line, self.multiplier(line), best);
         if is_gain(&self.sum(), &rise) {
-            Some(best)
+            Some(Gain { to: best, rise })
         } else {
             None
         }
@@ -192,13 +209,13 @@ impl Kept {
         true
     }
 
-    /// Whether the multipliers are settled for the marks.
+    /// Whether the multipliers are settled for the marks, as `specs/Settled.antt` defines it.
     pub fn is_settled(&self, problem: &Problem) -> bool
         requires { IsSumOf problem.now self.now }
         ensures { result ≡ is_settled problem.now self.now.marks (slice_index self.now.multipliers) }
     {
         is_at_most(&self.sum(), &self.zero_sum(problem))
-            && (self.sum() < LEAST || self.is_still(problem))
+            && (self.sum() < SETTLED_BELOW || self.is_still(problem))
     }
 }
 
@@ -209,5 +226,5 @@ fn is_gain(sum: &i128, rise: &i128) -> bool
     requires rise { Within (2 ^ 116) rise.now }
     ensures { IsTrue result ↔ IsGain sum.now (sum.now +ℤ rise.now) }
 {
-    *rise < 0 && *sum <= -*rise * PART
+    *rise < 0 && *sum <= -*rise * GAIN_PART
 }

@@ -9,16 +9,18 @@ ghost use Rattle.dali_lagrange.specs.Still.{IsStill, IsStillAt};
 
 use crate::kept::Kept;
 use crate::listed::listed;
-use crate::settled::LEAST;
+use crate::settled::SETTLED_BELOW;
 use dali_base::{OutOfMemory, Seq};
 use dali_problem::{Partial, Problem};
 use dali_tree::Lam;
 use std::alloc::Global;
 
-/// Settled multipliers of a partial choice, none of them 0, whose Sum isn't above that of the multipliers given.
+/// Settled multipliers of a partial choice, each 1 to 2^44, whose Sum isn't above that of the multipliers given. Answers
+/// only want of memory but Ok.
 ///
-/// What is settled is defined in `specs/Settled.antt`. A pass over the lines looks at the effects on a line twice where
-/// the line has its best multiplier, up to 23 times where the best one is at most 65,536 away, and up to 50 times else.
+/// What is settled is defined in `specs/Settled.antt`. A pass over the lines looks at the effects on a line twice where the
+/// line has its least best multiplier, and else up to 21 times where that is at most 2^16 away, up to 38 times where it is
+/// at most 2^32 away, and up to 50 times where it is farther.
 pub fn settle(
     alloc: Global,
     problem: &Problem,
@@ -39,10 +41,10 @@ pub fn settle(
 
 impl Kept {
     /// Takes on the multipliers given, or none where the Sum is smaller with all 0.
-    fn begin(&mut self, problem: &Problem, start: &Lam, none: &Lam)
+    fn begin(&mut self, problem: &Problem, start: &Lam, empty: &Lam)
         requires of { IsSumOf problem.now self.old }
         requires start { AreMultipliers (length problem.now.lines) start.now }
-        requires none { none.now ≡ [] }
+        requires empty { empty.now ≡ [] }
         ensures marks { self.new.marks ≡ self.old.marks }
         ensures of { IsSumOf problem.now self.new }
         ensures not_above_zero { sum_of problem.now self.new.marks (slice_index self.new.multipliers) ≤ℤ sum_of problem.now self.new.marks (λ _. 0) }
@@ -50,7 +52,7 @@ impl Kept {
     {
         self.load(problem, start);
         if self.sum() > self.zero_sum(problem) {
-            self.load(problem, none);
+            self.load(problem, empty);
         }
     }
 
@@ -62,7 +64,7 @@ impl Kept {
         ensures not_above { self.new.total ≤ℤ self.old.total }
         ensures still { pos 4096 ≤ℤ self.new.total → IsStill problem.now self.new.marks self.new.multipliers self.new.total }
     {
-        while self.sum() >= LEAST {
+        while self.sum() >= SETTLED_BELOW {
             if !self.pass(problem) {
                 return;
             }
@@ -98,8 +100,8 @@ impl Kept {
         ensures none { IsFalse result → IsStillAt problem.now self.old.marks self.old.multipliers self.old.total line }
     {
         match self.gain_at(problem, line) {
-            Some(to) => {
-                self.set(problem, line, to);
+            Some(gain) => {
+                self.set_with_rise(problem, line, gain.to, &gain.rise);
                 true
             }
             None => false,

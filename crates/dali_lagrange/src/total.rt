@@ -4,24 +4,26 @@ ghost use Rattle.std.specs.Prelude.{List, ℕ, ◌≤ℤ◌};
 ghost use Rattle.dali_problem.specs.Feasible.{ArePlaces, IsFeasible, value_of};
 ghost use Rattle.dali_problem.specs.Sums.{sum_below, sum_over, pick};
 ghost use Rattle.dali_problem.specs.Clearing.{balance, item_at};
-ghost use Rattle.dali_problem.specs.Limits.{Within, AreEffects};
+ghost use Rattle.dali_problem.specs.Limits.{Within, AreEffects, IsProblem};
 ghost use Rattle.dali_problem.specs.Partial.{mark, Agrees};
 ghost use Rattle.dali_problem.specs.Kept.{IsOf};
-ghost use Rattle.dali_lagrange.specs.Bound.{reduced, sum_of, counted};
+ghost use Rattle.dali_lagrange.specs.Bound.{reduced, sum_of, bound_of, counted, ArePartsSmall};
 
 use crate::point::Point;
 use crate::probe::Probe;
 use crate::product::{SCALE, add_counted, add_scaled, add_weighted, scaled};
 use dali_problem::{Effect, Partial, Problem};
 
-/// The Sum of a partial choice at a point: 4,096 times an upper bound on what any feasible set that agrees is worth.
-/// It is below 2^117 in size.
+/// The Sum of a partial choice at a point, as `specs/Bound.antt` defines it: 4,096 times an upper bound on what any
+/// feasible set that agrees is worth. It is below 2^117 in size.
 pub fn sum(problem: &Problem, partial: &Partial, point: &Point) -> i128
     requires partial { IsOf problem.now partial.now }
     requires point { length point.now ≡ length problem.now.lines }
     ensures exact { result ≡ sum_of problem.now partial.now.marks (slice_index point.now) }
     ensures bounded { Within (2 ^ 117 - 1) result }
+    ensures parts { ArePartsSmall problem.now partial.now.marks (slice_index point.now) }
     ensures bound { (t : List ℕ) → ArePlaces problem.now t → IsFeasible problem.now t → Agrees partial.now.marks t → pos (4096 * value_of problem.now t) ≤ℤ result }
+    ensures floor { (t : List ℕ) → ArePlaces problem.now t → IsFeasible problem.now t → Agrees partial.now.marks t → pos (value_of problem.now t) ≤ℤ bound_of result }
 {
     sum_at(problem, partial, &Probe::of(point))
 }
@@ -32,6 +34,7 @@ pub(crate) fn sum_at(problem: &Problem, partial: &Partial, point: &Probe) -> i12
     requires point { length point.now ≡ length problem.now.lines }
     ensures exact { result ≡ sum_of problem.now partial.now.marks (slice_index point.now) }
     ensures bounded { Within (2 ^ 117 - 1) result }
+    ensures limits { IsProblem problem.now }
 {
     let mut total = 0;
     add_lines(problem, point, &mut total);
@@ -45,6 +48,7 @@ fn add_lines(problem: &Problem, point: &Probe, total: &mut i128)
     requires start { total.old ≡ pos 0 }
     ensures exact { total.new ≡ sum_below (λ l. pos (slice_index point.now l) *ℤ balance problem.now l) (length problem.now.lines) }
     ensures bounded { Within (2 ^ 116) total.new }
+    ensures limits { IsProblem problem.now }
 {
     for line in 0..problem.lines() {
         add_scaled(total, point.get(line), problem.line(line).balance);

@@ -24,7 +24,7 @@ left_parts (m ∷ ms) ns image text (inr later) = elim (left_parts ms ns image t
   | inr second ↦ inr second
 ]
 
-left_first : (ms ns : List Moment) (image text : List ℕ) → LeftAtOne ms image text → LeftAtOne (ms ++ ns) image text
+pub left_first : (ms ns : List Moment) (image text : List ℕ) → LeftAtOne ms image text → LeftAtOne (ms ++ ns) image text
 left_first [] ns image text left = absurd left
 left_first (m ∷ ms) ns image text (inl here) = inl here
 left_first (m ∷ ms) ns image text (inr later) = inr (left_first ms ns image text later)

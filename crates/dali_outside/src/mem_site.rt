@@ -125,7 +125,8 @@ impl MemSite {
         self.tape.bytes()
     }
 
-    /// What a stop now may leave: the bytes that reads give, with each loose byte made `fill`.
+    /// What a stop now may leave: the bytes that reads give, with each loose byte made `fill`. The only error is want of
+    /// memory for them.
     pub fn stop_image(&self, alloc: Global, fill: u8) -> Result<Text, OutOfMemory>
         ensures image { IfOk result (λ image. image ≡ filled fill self.now.sight.bytes self.now.sight.loose) }
         ensures left { IfOk result (λ image. MayLeave (now self.now.sight) image self.now.sight.printed) }

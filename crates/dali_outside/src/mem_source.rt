@@ -36,7 +36,8 @@ impl Model for MemSource {
 }
 
 impl MemSource {
-    /// A source of these bytes. Each take gives at most `piece` bytes, and the listed calls fail.
+    /// A source of these bytes. Each take gives at most `piece` bytes, which is at least 1. The listed calls, counted
+    /// from 1, fail.
     pub fn new(bytes: Text, piece: u32, fails: Faults) -> MemSource
         requires { 1 ≤ piece }
         ensures { result ≡ record { feed = record { left = bytes; faults = 0 }; piece = piece; fails = fails; made = 0 } }

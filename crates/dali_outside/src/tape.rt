@@ -93,7 +93,7 @@ impl Tape {
         ensures as_long { length self.now.loose ≡ length self.now.bytes }
         ensures small { All (λ b. b < 256) self.now.bytes }
     {
-        // Under a name a slice is known to hold bytes.
+        // Only of a slice that has a name the check knows that its items are bytes, which `small` says.
         let bytes = self.bytes.as_slice();
         bytes
     }

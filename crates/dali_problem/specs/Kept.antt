@@ -35,6 +35,8 @@ pub record AllUndecided (f : List Mark) (members : List ℕ) : Type 0 where
   pub undecided : (j : ℕ) → Contains members j → mark f j ≡ Undecided
   pub strangers : (j : ℕ) → ¬ (Contains members j) → mark f j ≡ Stranger
 
+-- what follows serves the invariant of `Partial` and the proofs of private functions: no public clause cites it
+
 -- each of the three sums is at most m in size
 pub record IsSmall (m : ℕ) (s : LineSum) : Type 0 where
   pub held : Within m s.held

@@ -17,7 +17,7 @@ touches_below p l (suc n) = touches_below p l n ++ touch_by n (effect p n l)
 abbrev pub touches : Clearing → ℕ → List Touch
 touches p l = touches_below p l (length p.items)
 
--- the touches of a line by a place's effects, in their order
+-- the touches of a line by a place's effects, in their order; this serves the proofs of private functions alone
 abbrev pub entries : ℕ → ℕ → List Effect → List Touch
 entries j l [] = []
 entries j l (e ∷ es) = (if e.line == l then record { place = j; amount = e.amount } ∷ [] else []) ++ entries j l es

@@ -11,7 +11,7 @@ use std::marker::Model;
 pub struct Touch {
     /// The item's place, counted from 0.
     pub place: u32,
-    /// What the item changes the line by, in units of the line. Not 0.
+    /// What the item changes the line by, in units of the line's asset. Not 0, and at most 8 * 10^15 in size.
     pub amount: i64,
 }
 
@@ -33,7 +33,7 @@ impl Model for Columns {
 impl Columns {
     ghost use Rattle.dali_problem.specs.Touches.{touches, column_at};
 
-    /// The columns of this problem.
+    /// The columns of this problem, as `specs/Touches.antt` defines them. Answers only want of memory but Ok.
     pub fn new(alloc: Global, problem: &Problem) -> Result<Columns, OutOfMemory>
         ensures lines { IfOk result (λ columns. length columns ≡ length problem.now.lines) }
         ensures touches { IfOk result (λ columns. (l : ℕ) → l < length columns → column_at columns l ≡ touches problem.now l) }
@@ -43,7 +43,7 @@ impl Columns {
         Ok(Columns { lines })
     }
 
-    /// The items that change the line, places rising.
+    /// The items that change the line, places rising: at most 1,024.
     pub fn touching(&self, line: u32) -> &[Touch]
         requires { line < length self.now }
         ensures { result.now ≡ column_at self.now line }

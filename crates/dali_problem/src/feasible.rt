@@ -27,7 +27,7 @@ impl Model for Sums {
 }
 
 impl Sums {
-    /// A sum for each line of this problem.
+    /// A sum for each line of this problem. Answers only want of memory but Ok.
     pub fn new(alloc: Global, problem: &Problem) -> Result<Sums, OutOfMemory>
         ensures { IfOk result (λ sums. sums ≡ length problem.now.lines) }
     {
@@ -39,7 +39,7 @@ impl Sums {
 }
 
 impl Problem {
-    /// Whether no line is negative after all effects of these places at once.
+    /// Whether no line is negative after all effects of these places at once, as `specs/Feasible.antt` defines it.
     pub fn is_feasible(&self, places: &Places, sums: &mut Sums) -> bool
         requires places { ArePlaces self.now places.now }
         requires sums { sums.old ≡ length self.now.lines }
@@ -52,7 +52,8 @@ impl Problem {
         none_negative(at)
     }
 
-    /// The sum of the values of these places, in centavos.
+    /// The sum of the values of these places, in centavos times rank: at most 16,384 * 10^15. `specs/Feasible.antt` defines
+    /// it.
     pub fn value_of(&self, places: &Places) -> u64
         requires { ArePlaces self.now places.now }
         ensures { result ≡ value_of self.now places.now }

@@ -2,8 +2,9 @@
 //! choice among the items.
 //!
 //! The promise to the crates above: whether a set of items is feasible, what it is worth, and whether a rule lets a
-//! place be fixed are answered exactly as `specs/` defines them. Lines and places are counted from 0, and values,
-//! balances and amounts are in centavos.
+//! place be fixed are answered exactly as `specs/` defines them. Lines and places are counted from 0. A line's balance and
+//! the amounts on it are in units of its asset, which are centavos on a line of MXN. An item's value is in centavos
+//! times rank.
 #![tactic(auto)]
 
 mod columns;

@@ -11,12 +11,15 @@ ghost use Rattle.dali_problem.specs.Kept.{IsSmall, pays, bears, is_quiet};
 use crate::mark::Mark;
 use crate::row::{Effect, LineRow};
 
-/// What is kept of a line: its balance with the effects of the chosen places, and the positive and the negative
-/// effects of the undecided ones.
+/// What is kept of a line, in units of its asset: its balance with the effects of the chosen places, and the positive and
+/// the negative effects of the undecided ones.
 #[derive(Clone, Copy, Debug)]
 pub struct LineSum {
+    /// The balance with the effects of the chosen places.
     pub held: i128,
+    /// The sum of the positive effects of the undecided places: 0 or more.
     pub credits: i128,
+    /// The sum of the negative effects of the undecided places: 0 or less.
     pub debits: i128,
 }
 

@@ -37,7 +37,8 @@ impl Model for Partial {
 }
 
 impl Partial {
-    /// The members of a problem, all undecided. They may stand in any order, and more than once.
+    /// The members of a problem, all undecided. They may stand in any order, and more than once. Answers only want of
+    /// memory but Ok.
     pub fn new(alloc: Global, problem: &Problem, members: &Places) -> Result<Partial, OutOfMemory>
         requires { All (λ j. j < length problem.now.items) members.now }
         ensures of { IfOk result (λ partial. IsOf problem.now partial) }
@@ -87,7 +88,7 @@ impl Partial {
         );
     }
 
-    /// What is said of a place.
+    /// What is said of a place, as `specs/Partial.antt` defines it.
     pub fn mark(&self, place: u32) -> Mark
         requires { place < length self.now.marks }
         ensures { result ≡ mark self.now.marks place }
@@ -95,7 +96,7 @@ impl Partial {
         self.marks[place as usize]
     }
 
-    /// Whether the line is negative whatever is chosen among the undecided.
+    /// Whether the line is negative whatever is chosen among the undecided: `is_short` of `specs/Rules.antt`.
     pub fn is_short(&self, line: u32) -> bool
         requires { line < length self.now.sums }
         ensures { (p : Clearing) → IsOf p self.now → result ≡ is_short p self.now.marks line }
@@ -103,7 +104,8 @@ impl Partial {
         is_short_now(&self.sums[line as usize])
     }
 
-    /// Whether an undecided place can't be chosen: the line would be short. False where it isn't undecided.
+    /// Whether an undecided place can't be chosen: the line would be short. False where it isn't undecided. This is
+    /// `is_barred` of `specs/Rules.antt`.
     pub fn is_barred(&self, problem: &Problem, place: u32, line: u32) -> bool
         requires of { IsOf problem.now self.now }
         requires place { place < length problem.now.items }
@@ -117,7 +119,8 @@ impl Partial {
         is_short_if_chosen(&self.sums[line as usize], &amount)
     }
 
-    /// Whether an undecided place can't be left: the line would be short. False where it isn't undecided.
+    /// Whether an undecided place can't be left: the line would be short. False where it isn't undecided. This is
+    /// `is_needed` of `specs/Rules.antt`.
     pub fn is_needed(&self, problem: &Problem, place: u32, line: u32) -> bool
         requires of { IsOf problem.now self.now }
         requires place { place < length problem.now.items }
@@ -132,7 +135,7 @@ impl Partial {
     }
 
     /// Whether each line that an undecided place debits pays all that undecided places may take from it. False where
-    /// the place isn't undecided.
+    /// the place isn't undecided. This is `is_safe` of `specs/Rules.antt`.
     pub fn is_safe(&self, problem: &Problem, place: u32) -> bool
         requires of { IsOf problem.now self.now }
         requires place { place < length problem.now.items }

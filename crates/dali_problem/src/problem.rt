@@ -51,7 +51,8 @@ impl Problem {
         }
     }
 
-    /// Adds a line after the last one, and answers its number. At want of memory the problem stays as it was.
+    /// Adds a line after the last one, and answers its number. The balance is at most 10^18. At want of memory the problem
+    /// stays as it was.
     pub fn add_line(&mut self, row: LineRow) -> Result<u32, OutOfMemory>
         requires no_items { self.old.items ≡ [] }
         requires few { length self.old.lines < 4096 }
@@ -66,7 +67,9 @@ impl Problem {
         Ok(at)
     }
 
-    /// Adds an item after the last one, and answers its place. At want of memory the problem stays as it was.
+    /// Adds an item after the last one, and answers its place. The id is new, the value is 1 to 128 * 10^15, and all values
+    /// together are at most 16,384 * 10^15. The effects stand on rising lines: 0 to 32, none of them 0, each at most
+    /// 8 * 10^15 in size. At want of memory the problem stays as it was.
     pub fn add_item(&mut self, id: Name, value: u64, effects: &[Effect]) -> Result<u32, OutOfMemory>
         requires few { length self.old.items < 1024 }
         requires new_id { All (λ item. item.id ≢ id) self.old.items }
@@ -129,7 +132,7 @@ impl Problem {
         self.rows[at as usize].id
     }
 
-    /// The value of the item at this place, in centavos: 1 to 128 * 10^15.
+    /// The value of the item at this place, in centavos times rank: 1 to 128 * 10^15.
     pub fn value(&self, at: u32) -> u64
         requires { at < length self.now.items }
         ensures value { result ≡ (item_at self.now at).value }
@@ -138,7 +141,7 @@ impl Problem {
         self.rows[at as usize].value
     }
 
-    /// The effects of the item at this place, on rising lines.
+    /// The effects of the item at this place, on rising lines: 0 to 32, none of them 0, each at most 8 * 10^15 in size.
     pub fn effects(&self, at: u32) -> &[Effect]
         requires { at < length self.now.items }
         ensures effects { result.now ≡ (item_at self.now at).effects }

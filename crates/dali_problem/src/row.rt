@@ -7,7 +7,7 @@ pub struct LineRow {
     pub account: Name,
     /// The asset.
     pub asset: Name,
-    /// What the account holds of it, at most 10^18.
+    /// What the account holds of the asset, in the asset's units: at most 10^18.
     pub balance: u64,
 }
 
@@ -16,6 +16,7 @@ pub struct LineRow {
 pub struct Effect {
     /// The line, counted from 0.
     pub line: u32,
-    /// What is added, negative where the item takes from the line. Not 0, and at most 8 * 10^15 in size.
+    /// What is added, in units of the line's asset, and negative where the item takes from the line. Not 0, and at most
+    /// 8 * 10^15 in size.
     pub amount: i64,
 }

@@ -1,6 +1,7 @@
 use dali_base::Seq;
 
-/// A claim that one member can be fixed to one side, by the rule that it names.
+/// A claim that one member can be fixed to one side, by the rule that it names. The rules are `is_barred`, `is_needed` and
+/// `is_safe` of `dali_problem`'s `specs/Rules.antt`.
 #[derive(Clone, Copy, Debug, PartialEq, Eq)]
 pub enum Fix {
     /// The place is left: with it chosen, this line is short.

@@ -5,6 +5,6 @@ use Rattle.dali_lagrange.proofs.kept.Kept.take_gain.Goals as goal
 
 pub returns-in-Some-clause-gained : goal.returns-in-Some-clause-gained
 returns-in-Some-clause-gained c = λ _.
-    let is = total_set c.args.problem.now c.args.self.now c.set.new.self c.args.line c.in-Some.to c.set.ensures.of c.set.ensures.marks c.set.ensures.multipliers in
+    let is = total_set c.args.problem.now c.args.self.now c.set_with_rise.new.self c.args.line c.in-Some.gain.to c.set_with_rise.ensures.of c.set_with_rise.ensures.marks c.set_with_rise.ensures.multipliers in
     let gain = c.in-Some.ensures.gain in
     omega (arith, ints, is, gain.smaller)

@@ -4,13 +4,13 @@ use Rattle.std.specs.Vec.{with_items}
 use Rattle.std.proofs.lemmas.Int.{ints}
 use Rattle.std.proofs.lemmas.List.{get_or_read, with_items_is}
 use Rattle.std.proofs.lemmas.List.Elements.{All-set}
-use mir.Syntax.{w64, w128}
+use mir.Syntax.{w64}
 use mir.Val.{to_z, of_z}
 use Rattle.dali_lagrange.specs.Best.{sum_with}
 use Rattle.dali_lagrange.specs.KeptSum.{KeptSum, IsSumOf}
 use Rattle.dali_lagrange.specs.KeptSumLayout.{view_of}
 use Rattle.dali_lagrange.proofs.KeptLaws.{touching, line_set, kept_small, values_small}
-use Rattle.dali_lagrange.proofs.kept.Kept.set.Goals as goal
+use Rattle.dali_lagrange.proofs.kept.Kept.set_with_rise.Goals as goal
 
 pub shift_touched-requires-clause-touches : goal.shift_touched-requires-clause-touches
 shift_touched-requires-clause-touches c =
@@ -26,19 +26,17 @@ returns-clause-of c =
     let inside : c.args.line < length c.self.inside.multipliers.items = omega (arith, of.multipliers, c.requires.line) in
     let now : c.index-now.result.now ≡ get_or k.multipliers c.args.line 0 = get_or_read c.self.inside.multipliers.items c.args.line c.index-now.result.now inside c.index-now.ensures 0 in
     let stored : to_z w64 (of_z w64 c.offset.result) ≡ c.offset.result = omega (arith, ints, c.offset.type_inv) in
-    let stored_rise : to_z w128 (of_z w128 c.rise-rise.result) ≡ c.rise-rise.result = omega (arith, ints, c.rise-rise.type_inv) in
     let by : to_z w64 (of_z w64 c.offset.result) ≡ pos c.args.to -ℤ pos (get_or k.multipliers c.args.line 0) =
     stored ∙ c.offset.ensures.exact ∙ ap (λ n. pos c.args.to -ℤ pos n) now in
-    let rise : to_z w128 (of_z w128 c.rise-rise.result) ≡ sum_with c.args.problem.now k.marks k.multipliers c.args.line c.args.to -ℤ sum_with c.args.problem.now k.marks k.multipliers c.args.line (get_or k.multipliers c.args.line 0) =
-    stored_rise ∙ c.rise-rise.ensures.exact
-    ∙ ap (λ (v : KeptSum). sum_with c.args.problem.now v.marks v.multipliers c.args.line c.args.to -ℤ sum_with c.args.problem.now v.marks v.multipliers c.args.line c.index-now.result.now) (sym c.self.view_is)
-    ∙ ap (λ n. sum_with c.args.problem.now k.marks k.multipliers c.args.line c.args.to -ℤ sum_with c.args.problem.now k.marks k.multipliers c.args.line n) now in
+    let rise : c.args.rise.now ≡ sum_with c.args.problem.now k.marks k.multipliers c.args.line c.args.to -ℤ sum_with c.args.problem.now k.marks k.multipliers c.args.line (get_or k.multipliers c.args.line 0) =
+    c.requires.rise
+    ∙ ap (λ (v : KeptSum). sum_with c.args.problem.now v.marks v.multipliers c.args.line c.args.to -ℤ sum_with c.args.problem.now v.marks v.multipliers c.args.line (get_or v.multipliers c.args.line 0)) (sym c.self.view_is) in
     let size : length c.shift_touched.new.reduced ≡ length c.self.inside.reduced.items = c.shift_touched.auto.reduced ∙ ap length c.as_mut_slice.ensures.value in
     let whole : (with_items c.self.inside.reduced c.shift_touched.new.reduced).items ≡ c.shift_touched.new.reduced =
     with_items_is c.self.inside.reduced c.shift_touched.new.reduced (size ∙ sym c.self.inside.reduced.ok.0) in
     subst (λ (rs : List ℤ). IsSumOf c.args.problem.now (record { marks = k.marks; multipliers = set k.multipliers c.args.line c.args.to; reduced = rs; total = c.plus.new.total; columns = k.columns })) (sym whole)
     (line_set c.args.problem.now k c.args.line c.args.to c.as_mut_slice.result.now c.shift_touched.new.reduced c.touching.result.now
-    (to_z w64 (of_z w64 c.offset.result)) (to_z w128 (of_z w128 c.rise-rise.result)) c.plus.new.total of c.requires.line
+    (to_z w64 (of_z w64 c.offset.result)) c.args.rise.now c.plus.new.total of c.requires.line
     c.as_mut_slice.ensures.value c.shift_touched.auto.reduced c.touching.ensures by c.shift_touched.ensures rise c.plus.ensures)
 
 pub invariant_of-self : goal.invariant_of-self
