@@ -50,7 +50,7 @@ price_of codes code = lookup (same_name code) codes
 abbrev pub has_asset : List (List ℕ × ℕ) → List ℕ → Bool
 has_asset codes asset = same_name asset cash || is_some (price_of codes asset)
 
--- the units of an asset that these accounts hold, free and after_earmark
+-- the units of an asset that these accounts hold, free and earmarked
 abbrev pub held : List (List ℕ) → Units → Units → List ℕ → ℕ
 held accounts balances earmarks asset = sum_by (λ account. units_of balances (account, asset) + units_of earmarks (account, asset)) accounts
 

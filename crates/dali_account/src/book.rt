@@ -86,7 +86,8 @@ impl Book {
         self.assets.has(asset)
     }
 
-    /// The balance of a pair, 0 where nothing is held. It doesn't count earmarked units.
+    /// The balance of a pair in units of its asset, centavos for `MXN`: 0 where nothing is held, and at most 10^18. It
+    /// doesn't count earmarked units.
     pub fn balance(&self, account: Name, asset: Name) -> u64
         ensures balance { result ≡ balance_of self.now.book account asset }
         ensures within { result ≤ total_of self.now.book asset }
@@ -95,7 +96,7 @@ impl Book {
         self.balances.units(account, asset)
     }
 
-    /// The earmark of a pair, 0 where nothing is earmarked.
+    /// The earmark of a pair in units of its asset, centavos for `MXN`: 0 where nothing is earmarked, and at most 10^18.
     pub fn earmarked(&self, account: Name, asset: Name) -> u64
         ensures earmark { result ≡ earmark_of self.now.book account asset }
         ensures within { result ≤ total_of self.now.book asset }
@@ -155,9 +156,9 @@ impl Book {
         Ok(())
     }
 
-    /// Adds a code at the end, with its price in centavos. Refused with There where it exists or is `MXN`, and else
-    /// with Full where there are 1,000 codes. At a refusal the book stays as it was. Where the code is the readied
-    /// one, memory isn't wanted.
+    /// Adds a code at the end, with its price in centavos, which is from 1 to 1,000,000,000. Refused with There where the
+    /// code exists or is `MXN`, and else with Full where there are 1,000 codes. At a refusal the book stays as it was.
+    /// Where the code is the readied one, memory isn't wanted.
     pub fn add_asset(&mut self, code: Name, price: u64) -> Result<(), BookNo>
         requires from_one { 1 ≤ price }
         requires to_limit { price ≤ 1000000000 }

@@ -10,6 +10,7 @@ use std::marker::Model;
 pub struct Move {
     pub account: Name,
     pub asset: Name,
+    /// In units of the asset, centavos for `MXN`.
     pub delta: i64,
 }
 
@@ -57,6 +58,7 @@ impl Net {
         ensures len { result ≡ length self.now }
         ensures net { IsNet self.now }
     {
+        // Looks at the moves first: what the type says of them is the clause `net`.
         let _moves = &self.moves;
         self.moves.len()
     }

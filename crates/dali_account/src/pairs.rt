@@ -4,6 +4,7 @@ use dali_base::{Name, Seq};
 #[derive(Clone, Copy, Debug, PartialEq, Eq)]
 pub struct Pair {
     pub asset: Name,
+    /// In units of the asset, centavos for `MXN`.
     pub balance: u64,
 }
 

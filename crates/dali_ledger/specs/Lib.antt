@@ -1,3 +1,4 @@
 pub mod Postings
+pub mod Places
 pub mod Ledger
 pub mod LedgerKept

@@ -6,6 +6,7 @@ ghost use Rattle.dali_account.specs.Net.{IsNet, pair_of, after_move};
 ghost use Rattle.dali_account.specs.Units.{PairKey};
 ghost use Rattle.dali_ledger.specs.Postings.{IsLedger, IsLast, IsSum, delta_sum, with_move, posted};
 
+use crate::places::Places;
 use crate::posting::{Posting, Postings};
 use dali_account::{Move, Net};
 use dali_base::{Name, OutOfMemory, Seq};
@@ -13,12 +14,13 @@ use indexmap::IndexMap;
 use std::alloc::Global;
 use std::marker::Model;
 
-/// The numbered postings, and beside them the sum of the deltas of each pair of an account and an asset. Contracts see
-/// the list of the postings, and for how many more there is room.
+/// The numbered postings, and beside them the sum of the deltas of each pair of an account and an asset, and where each
+/// account's postings stand. Contracts see the list of the postings, and for how many more there is room.
 #[derive(Drop)]
 pub struct Ledger {
     postings: Vec<Posting>,
     sums: IndexMap<(Name, Name), u64>,
+    places: Places,
 }
 
 impl Model for Ledger {
@@ -41,6 +43,7 @@ impl Ledger {
         Ledger {
             postings: Vec::new(alloc),
             sums: IndexMap::new(alloc),
+            places: Places::new(alloc),
         }
     }
 
@@ -52,6 +55,7 @@ impl Ledger {
     {
         self.postings.reserve(more as usize)?;
         self.sums.reserve(more as usize)?;
+        self.places.reserve(more as usize)?;
         Ok(())
     }
 
@@ -88,6 +92,7 @@ impl Ledger {
     {
         let after = sum_after(self.delta_sum(item.account, item.asset), item);
         self.sums.insert((item.account, item.asset), after).unwrap();
+        self.places.add(item.account);
         self.postings.push_reserved(Posting {
             number: self.postings.len() as u64 + 1,
             command,
@@ -98,17 +103,18 @@ impl Ledger {
         });
     }
 
-    /// The postings of the account, in order.
+    /// The postings of the account, in order. Takes time for these rows alone, however many other postings there are.
     pub fn rows_of(&self, alloc: Global, account: Name) -> Result<Postings, OutOfMemory>
         ensures { IfOk result (λ rows. rows ≡ filter (λ p. same_name p.account account) self.now.postings) }
     {
-        let mut rows = Seq::new(alloc);
-        for posting in self.postings.as_slice() {
-            if posting.account == account {
-                rows.push(*posting)?;
-            }
+        let mut rows = Vec::new(alloc);
+        let mut next = self.places.last(account);
+        while let Some(place) = next {
+            rows.push(self.postings[place])?;
+            next = self.places.before(place);
         }
-        Ok(rows)
+        rows.as_mut_slice().reverse();
+        Ok(Seq::from_vec(rows))
     }
 
     /// The sum of the deltas of a pair, which is its balance and the `after` of its last posting. 0 where it has no

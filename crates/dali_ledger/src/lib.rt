@@ -5,6 +5,7 @@
 #![tactic(auto)]
 
 mod ledger;
+mod places;
 mod posting;
 #[cfg(test)]
 mod tests;

@@ -15,8 +15,9 @@ struct Standing {
 }
 
 impl Book {
-    /// Adds units to a balance. Refused with Name where the account or the asset doesn't exist, and else with Total
-    /// where the asset's total with the quantity is more than 10^18. At a refusal the book stays as it was.
+    /// Adds so many units of the asset, centavos for `MXN`, to a balance. Refused with Name where the account or the asset
+    /// doesn't exist, and else with Total where the asset's total with the quantity is more than 10^18. At a refusal and
+    /// at want of memory the book stays as it was. Where there is room for a new pair, memory isn't wanted.
     pub fn issue(&mut self, account: Name, asset: Name, quantity: u64) -> Result<(), BookNo>
         ensures refusal { Answers (issue_refusal self.old.book account asset quantity) result }
         ensures ok { OnOk result (self.new.book ≡ issued self.old.book account asset quantity) }
@@ -43,8 +44,9 @@ impl Book {
         self.raise_balance(account, asset, raised)
     }
 
-    /// Takes units from a balance. Refused with Name where the account or the asset doesn't exist, and else with
-    /// Short where the balance is less than the quantity. At a refusal the book stays as it was. Takes no memory.
+    /// Takes so many units of the asset, centavos for `MXN`, from a balance, which stays 0 at least. Refused with Name
+    /// where the account or the asset doesn't exist, and else with Short where the balance is less than the quantity. At
+    /// a refusal the book stays as it was. Takes no memory.
     pub fn draw(&mut self, account: Name, asset: Name, quantity: u64) -> Result<(), BookNo>
         ensures refusal { Answers (draw_refusal self.old.book account asset quantity) result }
         ensures memory { result ≢ Err BookNo.OutOfMemory }

@@ -8,8 +8,11 @@ use Rattle.dali_account.proofs.UnitsLemmas.{same_pair}
 use Rattle.dali_ledger.specs.declared.posting.Posting.{Posting}
 use Rattle.dali_ledger.specs.Ledger.{LedgerState}
 use Rattle.dali_ledger.specs.Postings.{IsLedger, IsSum, delta_sum, with_move}
+use Rattle.dali_ledger.specs.LedgerKept.{accounts_of}
+use Rattle.dali_ledger.specs.Places.{PlacesOf}
 use Rattle.dali_ledger.proofs.SumLemmas.{size_is}
 use Rattle.dali_ledger.proofs.KeptLemmas.{ledger_kept, beside_kept}
+use Rattle.dali_ledger.proofs.PlaceLemmas.{accounts_push}
 use Rattle.dali_ledger.proofs.ledger.Ledger.post_move.Goals as goal
 
 pub invariant_of-self : goal.invariant_of-self
@@ -31,6 +34,8 @@ invariant_of-self c =
     (c.sum_after-after.ensures ∙ ap (λ z. unsigned_abs (z +ℤ c.args.item.now.delta)) before) in
     record {
       ledger = subst IsLedger (sym items) (ledger_kept c.self.inside.postings.items c.args.command c.args.item.now c.self.invariant.ledger fits);
+      places = subst (PlacesOf c.add.new.self) (sym (ap accounts_of items ∙ accounts_push c.self.inside.postings.items c.args.command c.args.item.now))
+          (c.add.ensures.of (accounts_of c.self.inside.postings.items) c.self.invariant.places);
       sums = λ pair. beside_kept c.self.inside.postings.items c.args.command c.args.item.now c.self.invariant.ledger fits c.self.inside.sums.entries c.insert.new.self.entries c.sum_after-after.result after
           c.self.invariant.sums updates.0 pair ∙ ap (λ ps. delta_sum ps pair) (sym items);
     }
