@@ -10,7 +10,9 @@ pub struct Posting {
     pub command: u64,
     pub account: Name,
     pub asset: Name,
+    /// In units of the asset, centavos for `MXN`.
     pub delta: i64,
+    /// The balance of the account in the asset with this posting, in the same units: the sum of their deltas up to it.
     pub after: u64,
 }
 

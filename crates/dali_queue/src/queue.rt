@@ -69,8 +69,9 @@ impl Queue {
         Ok(())
     }
 
-    /// Enters an instruction at the end, in a group by itself. Its id is used from then on. Where there is room, memory
-    /// isn't wanted. At want of memory the queue stays as it was.
+    /// Enters an instruction at the end, in a group by itself. Its id is used from then on. The id wasn't used before,
+    /// fewer than 1,024 are queued, and the instruction's numbers are within their bounds (`specs/Instruction.antt`),
+    /// with the rank 1. Where there is room, memory isn't wanted. At want of memory the queue stays as it was.
     pub fn enter(&mut self, item: Instruction) -> Result<(), OutOfMemory>
         requires new { is_used self.old.queue item.id ≡ false }
         requires few { length self.old.queue.waiting < MOST_QUEUED }
@@ -159,7 +160,8 @@ impl Queue {
         Ok(item)
     }
 
-    /// Takes the instructions at these places out of the queue. Their ids stay used.
+    /// Takes the instructions at these places out of the queue. The places rise, and each is below the length. The
+    /// others of their groups stay linked, and their ids stay used.
     pub fn remove_all(&mut self, places: &Places)
         requires rising { AllPairs (λ i j. i < j) places.now }
         requires in_range { All (λ p. p < length self.old.queue.waiting) places.now }

@@ -13,7 +13,7 @@ use std::alloc::Global;
 use std::io::Write;
 
 /// The table of all postings: a header row and one row for each posting in order of number, fields joined by commas,
-/// each row ended by LF.
+/// each row ended by LF, as `specs/Export.antt` defines. Want of memory is the only error.
 pub fn ledger_csv(alloc: Global, ledger: &Ledger) -> Result<Text, OutOfMemory>
     ensures { IfOk result (λ text. text ≡ table ledger.now.postings) }
 {

@@ -21,7 +21,7 @@ pub type WaitRows = Seq<WaitRow>;
 /// A list of ids.
 pub type Ids = Seq<Name>;
 
-/// A row for each queued instruction, in queue order.
+/// A row for each queued instruction, in queue order, as `specs/Rows.antt` defines. Want of memory is the only error.
 pub fn waiting(alloc: Global, queue: &Queue) -> Result<WaitRows, OutOfMemory>
     ensures { IfOk result (λ rows. rows ≡ waiting_rows queue.now.queue) }
 {
@@ -32,7 +32,8 @@ pub fn waiting(alloc: Global, queue: &Queue) -> Result<WaitRows, OutOfMemory>
     Ok(rows)
 }
 
-/// The ids of the queued instructions of which the account is a party, in queue order.
+/// The ids of the queued instructions of which the account is giver or taker, in queue order, as `specs/Rows.antt`
+/// defines. Want of memory is the only error.
 pub fn held(alloc: Global, queue: &Queue, account: Name) -> Result<Ids, OutOfMemory>
     ensures { IfOk result (λ ids. ids ≡ held_ids queue.now.queue account) }
 {

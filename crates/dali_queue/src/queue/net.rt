@@ -12,7 +12,9 @@ use dali_base::{OutOfMemory, Places};
 use std::alloc::Global;
 
 impl Queue {
-    /// The net of the instructions at these places: for each pair of an account and an asset the sum of their effects.
+    /// The net of the instructions at these places: for each pair of an account and an asset the sum of their effects
+    /// (`specs/NetOf.antt`), in byte order of account, then of asset, without the pairs whose sum is 0. The places rise,
+    /// and each is below the length. Want of memory is the only error.
     pub fn net(&self, alloc: Global, places: &Places) -> Result<Net, OutOfMemory>
         requires rising { AllPairs (λ i j. i < j) places.now }
         requires in_range { All (λ p. p < length self.now.queue.waiting) places.now }
