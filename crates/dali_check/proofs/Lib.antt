@@ -16,3 +16,4 @@ pub mod Passing
 pub mod Reasons
 pub mod Firsts
 pub mod Counting
+pub mod Ceiling

@@ -10,18 +10,16 @@ use Rattle.dali_tree.specs.declared.fix.Fix.{Fix}
 use Rattle.dali_tree.specs.declared.tree.Tree.{Tree}
 use Rattle.dali_tree.specs.declared.tree.End.{End}
 use Rattle.dali_tree.specs.declared.tree.End.TheOpen.{Tree-F, End-F}
-use Rattle.dali_tree.specs.declared.tree.End.TheFolds.{fold-End, fold-roll-End, fold-roll-Tree, ind-Tree, map-End, map-Tree}
+use Rattle.dali_tree.specs.declared.tree.End.TheFolds.{fold-roll-End, fold-roll-Tree, ind-Tree, map-End, map-Tree}
 use Rattle.dali_tree.specs.declared.tree.End.TheViews.{roll-End, roll-Tree}
 use Rattle.dali_fixes.specs.Fixed.{after}
 use Rattle.dali_fixes.proofs.Sets.{AtMost}
 use Rattle.dali_fixes.proofs.Exchange.{branch_keeps, short_keeps, fixes_keep, after_length}
 use Rattle.dali_check.specs.Sides.{when_fixed}
 use Rattle.dali_check.specs.Proves.{proves_end, proves_tree}
+use Rattle.dali_check.specs.Ends.{proves_ends}
 use Rattle.dali_check.proofs.Weakly.{closes_keeps}
 use Rattle.dali_check.proofs.AlikeTrees.{Test, at_node}
-
-abbrev proves_ends : Clearing → ℕ → End → List Mark → Bool
-proves_ends p u = fold-End Test Test (proves_end p u) (at_node p)
 
 -- where a test proves a bound u, the bound holds
 pub record Bounds (p : Clearing) (u : ℕ) (test : List Mark → Bool) : Type 0 where

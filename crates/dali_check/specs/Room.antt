@@ -10,9 +10,8 @@ use Rattle.dali_lagrange.specs.KeptSum.{KeptSum, IsSumOf}
 use Rattle.dali_lagrange.specs.Multipliers.{multiplier}
 
 -- what a scratch has ready between two calls
-pub record Room : Type 0 where
+pub record ScratchState : Type 0 where
   pub partial : Kept
-  pub point : ℕ
   pub kept : KeptSum
   pub sums : ℕ
   pub tests : Kept
@@ -25,15 +24,14 @@ pub record IsReady (p : Clearing) (kept : KeptSum) : Type 0 where
   pub members : All (λ m. m ≢ Stranger) kept.marks
 
 -- it was made for this problem: nothing is chosen or undecided, and there is one of each for each place or line
-pub record IsFor (p : Clearing) (room : Room) : Type 0 where
-  pub of : IsOf p room.partial
-  pub idle : All (λ m. m ≡ Left) room.partial.marks
-  pub point : room.point ≡ length p.lines
-  pub kept : IsReady p room.kept
-  pub sums : room.sums ≡ length p.lines
-  pub tests : IsRoomOf p room.tests
-  pub places : room.places ≡ length p.items
-  pub lines : room.lines ≡ length p.lines
+pub record IsFor (p : Clearing) (scratch : ScratchState) : Type 0 where
+  pub of : IsOf p scratch.partial
+  pub idle : All (λ m. m ≡ Left) scratch.partial.marks
+  pub kept : IsReady p scratch.kept
+  pub sums : scratch.sums ≡ length p.lines
+  pub tests : IsRoomOf p scratch.tests
+  pub places : scratch.places ≡ length p.items
+  pub lines : scratch.lines ≡ length p.lines
 
 -- kept sums stand for a partial choice at multipliers; what is a stranger there may be left here
 pub record StandsFor (p : Clearing) (lam : List (ℕ × ℕ)) (f : List Mark) (kept : KeptSum) : Type 0 where

@@ -1,4 +1,4 @@
-ghost use Rattle.std.specs.Prelude.{◌≡◌, ℕ, ◌<◌, ◌≤◌, ◌^◌, ◌↔◌, ◌⊎◌, true, false, List, length, slice_index_or, IsTrue, IfSome, IfNone, OnOk, IfErr};
+ghost use Rattle.std.specs.Prelude.{◌≡◌, ℕ, ◌<◌, ◌≤◌, ◌^◌, ◌↔◌, ◌⊎◌, true, false, List, length, slice_index_or, sum_by, IsTrue, IfSome, IfNone, OnOk, IfErr};
 ghost use Rattle.std.specs.List.{All, Any, filter};
 ghost use Rattle.dali_problem.specs.declared.mark.Mark.TheVariants.{Left};
 ghost use Rattle.dali_problem.specs.Kept.{IsOf};
@@ -27,10 +27,11 @@ use dali_problem::{Partial, Problem};
 use dali_rest::Room;
 use dali_tree::{Choice, Part};
 
-/// Whether a choice is allowed for this budget of branchings, and else the first reason why not. Takes no memory.
+/// Whether a choice is allowed for this budget of branchings, and else the first reason why not, by `Allowed` and
+/// `IsReason` of `specs/Allowed.antt`. Takes no memory.
 ///
 /// Where it is, no feasible set is worth more than the sum of the bounds, in centavos, so a set that is worth that sum
-/// is best.
+/// is best. That sum is at most the values of all items, so it fits in a `u64`.
 pub fn allowed(
     problem: &Problem,
     budget: u64,
@@ -42,6 +43,7 @@ pub fn allowed(
     ensures ok { OnOk result (Allowed problem.now budget choice.now) }
     ensures err { IfErr result (λ reason. IsReason problem.now budget choice.now reason) }
     ensures bound { OnOk result ((t : List ℕ) → ArePlaces problem.now t → IsFeasible problem.now t → value_of problem.now t ≤ bound_of choice.now.parts) }
+    ensures small { OnOk result (bound_of choice.now.parts ≤ sum_by (λ item. item.value) problem.now.items) }
     ensures best { OnOk result (value_of problem.now choice.now.places ≡ bound_of choice.now.parts → Best problem.now choice.now.places) }
     ensures made { IsFor problem.now scratch.new }
 {
@@ -142,6 +144,7 @@ fn check_parts(problem: &Problem, choice: &Choice, scratch: &mut Scratch) -> Res
     requires passed { (budget : ℕ) → Passed problem.now budget choice.now 6 }
     ensures ok { OnOk result ((budget : ℕ) → Passed problem.now budget choice.now 8) }
     ensures proved { OnOk result (All (λ part. proves_part problem.now part ≡ true) choice.now.parts) }
+    ensures lean { OnOk result (All (λ part. lean_part problem.now part (value_in_part problem.now choice.now.places part) ≡ true) choice.now.parts) }
     ensures err { IfErr result (λ reason. (budget : ℕ) → IsReason problem.now budget choice.now reason) }
     ensures made { IsFor problem.now scratch.new }
 {
@@ -191,7 +194,7 @@ fn first_not_lean(
 {
     let marks = scratch.places.as_mut_slice();
     mark_set(set, marks);
-    first_wasteful(
+    first_not_lean_marked(
         problem,
         parts,
         marks,
@@ -219,7 +222,7 @@ fn clear(marks: &mut [bool])
 }
 
 /// The first part that isn't lean, where the marked places are chosen.
-fn first_wasteful(
+fn first_not_lean_marked(
     problem: &Problem,
     parts: &[Part],
     marks: &[bool],

@@ -25,7 +25,8 @@ struct Claim {
     value: u64,
 }
 
-/// Whether the part is lean, where `value` is what its chosen places are worth, in centavos. Takes no memory.
+/// Whether the part is lean, by `lean_part` of `specs/Lean.antt`, where `value` is what its chosen places are worth, in
+/// centavos. Takes no memory.
 pub fn lean(problem: &Problem, part: &Part, value: u64, scratch: &mut Scratch) -> bool
     requires made { IsFor problem.now scratch.old }
     requires in_range { IsPartInRange (length problem.now.items) (length problem.now.lines) part.now }
@@ -131,31 +132,15 @@ fn end(
             inside,
             outside,
         } => {
+            let inside = inside.get();
+            let outside = outside.get();
             if !branch_holds(problem, claim, *place, lam, partial, kept) {
                 return false;
             }
-            if !side(
-                problem,
-                claim,
-                inside.get(),
-                *place,
-                true,
-                partial,
-                kept,
-                tight,
-            ) {
+            if !side(problem, claim, inside, *place, true, partial, kept, tight) {
                 return false;
             }
-            side(
-                problem,
-                claim,
-                outside.get(),
-                *place,
-                false,
-                partial,
-                kept,
-                tight,
-            )
+            side(problem, claim, outside, *place, false, partial, kept, tight)
         }
     }
 }

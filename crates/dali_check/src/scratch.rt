@@ -5,20 +5,19 @@ ghost use Rattle.dali_problem.specs.declared.mark.Mark.TheVariants.{Undecided, L
 ghost use Rattle.dali_check.specs.Room.{IsFor};
 
 use dali_base::{OutOfMemory, Places};
-use dali_lagrange::{Kept, Point};
+use dali_lagrange::Kept;
 use dali_problem::{Partial, Problem, Sums};
 use dali_rest::Room;
 use std::alloc::Global;
 use std::marker::Model;
 
-/// What the calls of this crate work with, made once for a problem: a partial choice, a point, kept sums, room for tests
-/// on sets, and marks of places and lines.
+/// What the calls of this crate work with, made once for a problem: a partial choice, kept sums, room for tests on sets,
+/// and marks of places and lines.
 ///
 /// Every call leaves it ready for the next one.
 #[derive(Drop)]
 pub struct Scratch {
     pub(crate) partial: Partial,
-    pub(crate) point: Point,
     pub(crate) kept: Kept,
     pub(crate) sums: Sums,
     pub(crate) tests: Room,
@@ -28,13 +27,12 @@ pub struct Scratch {
 
 impl Model for Scratch {
     ghost use Rattle.std.specs.Prelude.{length};
-    ghost use Rattle.dali_check.specs.Room.{Room};
+    ghost use Rattle.dali_check.specs.Room.{ScratchState};
 
-    ghost Value = { Room };
+    ghost Value = { ScratchState };
 
     ghost view = { λ s. record {
       partial = s.partial;
-      point = length s.point;
       kept = s.kept;
       sums = s.sums;
       tests = s.tests;
@@ -44,7 +42,7 @@ impl Model for Scratch {
 }
 
 impl Scratch {
-    /// A scratch for this problem.
+    /// A scratch for this problem, or want of memory.
     pub fn new(alloc: Global, problem: &Problem) -> Result<Scratch, OutOfMemory>
         ensures { IfOk result (λ scratch. IsFor problem.now scratch) }
     {
@@ -56,7 +54,6 @@ impl Scratch {
         leave_all(problem, &mut partial);
         Ok(Scratch {
             partial,
-            point: Point::new(alloc, problem)?,
             kept: Kept::new(alloc, problem, &places)?,
             sums: Sums::new(alloc, problem)?,
             tests: Room::new(alloc, problem)?,

@@ -1,4 +1,4 @@
-ghost use Rattle.std.specs.Prelude.{◌≡◌, ◌≢◌, ℕ, ◌+◌, ◌*◌, ◌^◌, ◌<◌, pos, Bool, ◌&&◌, ◌||◌, not, nat_lt, nat_le, List, length, slice_set, IsTrue, if◌then◌else◌};
+ghost use Rattle.std.specs.Prelude.{◌≡◌, ◌≢◌, ◌↔◌, ℕ, ◌+◌, ◌*◌, ◌^◌, ◌<◌, pos, Bool, ◌&&◌, ◌||◌, not, nat_lt, nat_le, List, length, slice_set, IsTrue, if◌then◌else◌};
 ghost use Rattle.std.specs.Int.Signed.{le_z};
 ghost use Rattle.std.specs.List.{All};
 ghost use Rattle.dali_problem.specs.declared.mark.Mark.{Mark};
@@ -43,8 +43,32 @@ fn align(problem: &Problem, partial: &Partial, kept: &mut Kept)
     }
 }
 
-/// Gives a place this mark, where a stranger becomes left.
+/// Gives a place this mark, where it has another. A stranger becomes left.
 fn give(problem: &Problem, place: u32, to: Mark, kept: &mut Kept)
+    requires ready { IsReady problem.now kept.old }
+    requires place { place < length problem.now.items }
+    ensures of { IsSumOf problem.now kept.new }
+    ensures marks { kept.new.marks ≡ slice_set kept.old.marks place (as_member to) }
+{
+    if is_aligned(kept.mark(place), to) {
+        return;
+    }
+    turn(problem, place, to, kept);
+}
+
+/// Whether a member has this mark, where a stranger is left.
+fn is_aligned(now: Mark, to: Mark) -> bool
+    ensures { IsTrue result ↔ (now ≡ as_member to) }
+{
+    match to {
+        Mark::Undecided => now == Mark::Undecided,
+        Mark::Chosen => now == Mark::Chosen,
+        Mark::Left | Mark::Stranger => now == Mark::Left,
+    }
+}
+
+/// Gives a place this mark, where a stranger becomes left.
+fn turn(problem: &Problem, place: u32, to: Mark, kept: &mut Kept)
     requires ready { IsReady problem.now kept.old }
     requires place { place < length problem.now.items }
     ensures of { IsSumOf problem.now kept.new }
@@ -153,11 +177,14 @@ fn is_behind(problem: &Problem, partial: &Partial, kept: &Kept, place: u32, othe
     }
     let near = nearness(kept, place);
     let far = nearness(kept, other);
-    if other < place {
-        near < far
-    } else {
-        near <= far
-    }
+    is_ahead(near, far, other < place)
+}
+
+/// Whether a number is below another, or the same where that will do.
+fn is_ahead(near: u128, far: u128, strictly: bool) -> bool
+    ensures { result ≡ (if strictly then nat_lt near far else nat_le near far) }
+{
+    if strictly { near < far } else { near <= far }
 }
 
 /// The size of a place's reduced value.

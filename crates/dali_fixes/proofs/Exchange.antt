@@ -17,7 +17,7 @@ use Rattle.dali_problem.proofs.Opened.{within_undecided}
 use Rattle.dali_tree.specs.declared.fix.Fix.{Fix}
 use Rattle.dali_tree.specs.declared.fix.Fix.TheVariants.{Barred, Needed, Safe}
 use Rattle.dali_fixes.specs.Fixed.{place_of, becomes, holds, after}
-use Rattle.dali_fixes.proofs.Sets.{total, worth_of, Covers, Goes, AtMost, past_line, line_least, short_none}
+use Rattle.dali_fixes.proofs.Sets.{total, worth_of, Covers, Goes, AtMost, Finds, past_line, line_least, short_none}
 
 -- the mark of a place after one place got another
 set_here : (f : List Mark) (j i : ℕ) (m : Mark) → j < length f → i ≡ j → mark (set f j m) i ≡ m
@@ -187,49 +187,74 @@ branch_keeps p f j u told inside outside =
 pub short_keeps : (p : Clearing) (f : List Mark) (l u : ℕ) → is_short p f l ≡ true → AtMost p f u
 short_keeps p f l u short = record { most = (λ w covers goes. absurd (short_none p f w l short covers goes)) }
 
--- a bound after a fix is a bound before it
-pub fix_keeps : (p : Clearing) (f : List Mark) (fix : Fix) (u : ℕ) → IsProblem p → length f ≡ length p.items →
-    holds p f fix ≡ true → AtMost p (set f (place_of fix) (becomes fix)) u → AtMost p f u
+-- a set that goes is one that is worth what it is worth
+itself : (p : Clearing) (f : List Mark) (w : ℕ → Bool) → Covers p w → Goes f w → Finds p f (worth_of p w)
+itself p f w covers goes = record { test = w; covers = covers; goes = goes; least = omega (arith, ints) }
+
+-- what goes before a fix has something after it that is worth as much
+pub fix_finds : (p : Clearing) (f : List Mark) (fix : Fix) (w : ℕ → Bool) → IsProblem p → length f ≡ length p.items →
+    holds p f fix ≡ true → Covers p w → Goes f w → Finds p (set f (place_of fix) (becomes fix)) (worth_of p w)
 unfolding holds
-fix_keeps p f (Barred j l) u limits size told bound =
+fix_finds p f (Barred j l) w limits size told covers goes =
     let parts = and_parts (is_undecided (mark f j)) (is_short p (set f j Chosen) l) told in
-    branch_keeps p f j u parts.0 (short_keeps p (set f j Chosen) l u parts.1) bound
-fix_keeps p f (Needed j l) u limits size told bound =
+    let within = within_undecided f j (undecided_is (mark f j) parts.0) in
+    elim (cases_Bool (w j)) as (λ _. Finds p (set f j Left) (worth_of p w)) [
+      | inl there ↦ absurd (short_none p (set f j Chosen) w l parts.1 covers (goes_chosen f w j within there goes))
+      | inr gone ↦ itself p (set f j Left) w covers (goes_left f w j within gone goes)
+    ]
+fix_finds p f (Needed j l) w limits size told covers goes =
     let parts = and_parts (is_undecided (mark f j)) (is_short p (set f j Left) l) told in
-    branch_keeps p f j u parts.0 bound (short_keeps p (set f j Left) l u parts.1)
-fix_keeps p f (Safe j) u limits size told bound =
+    let within = within_undecided f j (undecided_is (mark f j) parts.0) in
+    elim (cases_Bool (w j)) as (λ _. Finds p (set f j Chosen) (worth_of p w)) [
+      | inl there ↦ itself p (set f j Chosen) w covers (goes_chosen f w j within there goes)
+      | inr gone ↦ absurd (short_none p (set f j Left) w l parts.1 covers (goes_left f w j within gone goes))
+    ]
+fix_finds p f (Safe j) w limits size told covers goes =
     let parts = and_parts (is_undecided (mark f j)) (all_below (λ l. not (is_negative (effect p j l)) || is_covered p f l) (length p.lines)) told in
     let undecided : mark f j ≡ Undecided = undecided_is (mark f j) parts.0 in
     let within = within_undecided f j undecided in
-    record {
-      most = (λ w covers goes. elim (cases_Bool (w j)) as (λ _. worth_of p w ≤ℤ pos u) [
-        | inl there ↦ bound.most w covers (goes_chosen f w j within there goes)
-        | inr gone ↦
-            let more = bound.most (with j w) (safe_covers p f w j limits size told gone covers goes)
-            (goes_chosen f (with j w) j within (with_here w j j refl) (with_goes f w j undecided goes)) in
-            omega (arith, ints, more, with_worth p w j)
-      ]);
-    }
+    elim (cases_Bool (w j)) as (λ _. Finds p (set f j Chosen) (worth_of p w)) [
+      | inl there ↦ itself p (set f j Chosen) w covers (goes_chosen f w j within there goes)
+      | inr gone ↦ record {
+        test = with j w;
+        covers = safe_covers p f w j limits size told gone covers goes;
+        goes = goes_chosen f (with j w) j within (with_here w j j refl) (with_goes f w j undecided goes);
+        least = with_worth p w j;
+      }
+    ]
 
--- a bound after all fixes is a bound before them
-pub fixes_keep : (p : Clearing) (fixes : List Fix) (f g : List Mark) (u : ℕ) → IsProblem p → length f ≡ length p.items →
-    after p fixes f ≡ Some g → AtMost p g u → AtMost p f u
-fixes_keep p [] f g u limits size leads bound = subst (λ (h : List Mark). AtMost p h u) (sym (some_is f g leads)) bound
+-- the same of all fixes
+pub fixes_find : (p : Clearing) (fixes : List Fix) (f g : List Mark) (w : ℕ → Bool) → IsProblem p → length f ≡ length p.items →
+    after p fixes f ≡ Some g → Covers p w → Goes f w → Finds p g (worth_of p w)
+fixes_find p [] f g w limits size leads covers goes =
+    itself p g w covers (subst (λ (h : List Mark). Goes h w) (some_is f g leads) goes)
   where
     some_is : (f g : List Mark) → Some f ≡ Some g → f ≡ g
     some_is f g is = cc
-fixes_keep p (fix ∷ fixes) f g u limits size leads bound = elim (cases_Bool (holds p f fix)) as (λ _. AtMost p f u) [
+fixes_find p (fix ∷ fixes) f g w limits size leads covers goes = elim (cases_Bool (holds p f fix)) as (λ _. Finds p g (worth_of p w)) [
   | inl told ↦
-      let next : after p fixes (set f (place_of fix) (becomes fix)) ≡ Some g =
-      sym (ap (λ b. if b then after p fixes (set f (place_of fix) (becomes fix)) else None) told) ∙ leads in
-      let same : length (set f (place_of fix) (becomes fix)) ≡ length p.items = length-set f (place_of fix) (becomes fix) ∙ size in
-      fix_keeps p f fix u limits size told (fixes_keep p fixes (set f (place_of fix) (becomes fix)) g u limits same next bound)
+      let h : List Mark = set f (place_of fix) (becomes fix) in
+      let next : after p fixes h ≡ Some g = sym (ap (λ b. if b then after p fixes h else None) told) ∙ leads in
+      let same : length h ≡ length p.items = length-set f (place_of fix) (becomes fix) ∙ size in
+      let first = fix_finds p f fix w limits size told covers goes in
+      let rest = fixes_find p fixes h g first.test limits same next first.covers first.goes in
+      record { test = rest.test; covers = rest.covers; goes = rest.goes; least = omega (arith, ints, first.least, rest.least) }
   | inr refused ↦ absurd (none_some g
       (sym (ap (λ b. if b then after p fixes (set f (place_of fix) (becomes fix)) else None) refused) ∙ leads))
 ]
   where
     none_some : (g : List Mark) → None ≡ Some g → ⊥
     none_some g is = cc
+
+-- a bound after all fixes is a bound before them
+pub fixes_keep : (p : Clearing) (fixes : List Fix) (f g : List Mark) (u : ℕ) → IsProblem p → length f ≡ length p.items →
+    after p fixes f ≡ Some g → AtMost p g u → AtMost p f u
+fixes_keep p fixes f g u limits size leads bound = record {
+  most = (λ w covers goes.
+      let found = fixes_find p fixes f g w limits size leads covers goes in
+      let most = bound.most found.test found.covers found.goes in
+      omega (arith, ints, found.least, most));
+}
 
 -- fixes keep the number of places
 pub after_length : (p : Clearing) (fixes : List Fix) (f g : List Mark) → after p fixes f ≡ Some g → length g ≡ length f

@@ -1,3 +1,4 @@
 pub mod Undoing
 pub mod Sets
 pub mod Exchange
+pub mod Worths

@@ -39,6 +39,13 @@ pub record Goes (f : List Mark) (w : ℕ → Bool) : Type 0 where
 pub record AtMost (p : Clearing) (f : List Mark) (u : ℕ) : Type 0 where
   pub most : (w : ℕ → Bool) → Covers p w → Goes f w → worth_of p w ≤ℤ pos u
 
+-- some set that agrees and leaves no line negative is worth at least v
+pub record Finds (p : Clearing) (f : List Mark) (v : ℤ) : Type 0 where
+  pub test : ℕ → Bool
+  pub covers : Covers p test
+  pub goes : Goes f test
+  pub least : v ≤ℤ worth_of p test
+
 -- past the last line nothing stands
 pub past_line : (p : Clearing) (j l : ℕ) → IsProblem p → length p.lines ≤ l → effect p j l ≡ pos 0
 past_line p j l limits past = elim (cases_lt j (length p.items)) as (λ _. effect p j l ≡ pos 0) [

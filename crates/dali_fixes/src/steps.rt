@@ -6,6 +6,7 @@ ghost use Rattle.dali_problem.specs.Kept.{IsOf};
 ghost use Rattle.dali_tree.specs.declared.fix.Fix.{Fix};
 ghost use Rattle.dali_tree.specs.Fits.{fix_fits};
 ghost use Rattle.dali_fixes.specs.Fixed.{place_of, becomes, holds, after, undone};
+ghost use Rattle.dali_fixes.specs.Worth.{KeepsWorth};
 
 use dali_problem::{Partial, Problem};
 use dali_tree::Fix;
@@ -13,7 +14,8 @@ use dali_tree::Fix;
 /// Takes fixes in order, up to the first whose rule doesn't hold at its point, and answers how many were taken. They
 /// stay taken.
 ///
-/// `undo` with those that were taken makes the partial choice as it was.
+/// For each feasible set that agreed before, some feasible set agrees afterwards that is worth as much or more. `undo`
+/// with those that were taken makes the partial choice as it was.
 pub fn apply(problem: &Problem, fixes: &[Fix], partial: &mut Partial) -> usize
     requires of { IsOf problem.now partial.old }
     requires fits { IsTrue (list_all (fix_fits (length problem.now.items) (length problem.now.lines)) fixes.now) }
@@ -23,9 +25,11 @@ pub fn apply(problem: &Problem, fixes: &[Fix], partial: &mut Partial) -> usize
     ensures stopped { result < length fixes.now → (d : Fix) → holds problem.now partial.new.marks (slice_index_or fixes.now result d) ≡ false }
     ensures all { result ≡ length fixes.now → after problem.now fixes.now partial.old.marks ≡ Some partial.new.marks }
     ensures none { result < length fixes.now → after problem.now fixes.now partial.old.marks ≡ None }
+    ensures worth { KeepsWorth problem.now partial.old.marks partial.new.marks }
     ensures back { undone (take result fixes.now) partial.new.marks ≡ partial.old.marks }
     ensures members { All (λ fix. mark partial.new.marks (place_of fix) ≢ Stranger) (take result fixes.now) }
 {
+    let _items = problem.items();
     for taken in 0..fixes.len() {
         if !take_one(problem, &fixes[taken], partial) {
             return taken;

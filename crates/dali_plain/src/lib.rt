@@ -1,5 +1,5 @@
-//! A plain slow program beside the definitions: it goes through all sets of up to ten items of a clearing problem by
-//! masks, with no sums kept and no rule used.
+//! A plain slow program beside the definitions: it goes through all sets of places of a clearing problem by masks, with
+//! no sums kept and no rule used. `best_of` takes a problem of up to ten items.
 //!
 //! The promise to the crates above: each answer is its definition, and `best_of` is the greatest value of any feasible set.
 //! A mask is a number whose bit j stands for place j. Lines and places are counted from 0, values are in centavos.

@@ -38,7 +38,7 @@ pub fn value_of_mask(problem: &Problem, mask: u32) -> u64
     total
 }
 
-/// The places of a mask, rising.
+/// The places of a mask, rising, or want of memory.
 pub fn places_of_mask(alloc: Global, problem: &Problem, mask: u32) -> Result<Places, OutOfMemory>
     ensures places { IfOk result (λ places. places ≡ places_of problem.now mask) }
     ensures set { IfOk result (λ places. ArePlaces problem.now places) }
@@ -54,7 +54,7 @@ pub fn places_of_mask(alloc: Global, problem: &Problem, mask: u32) -> Result<Pla
     Ok(places)
 }
 
-/// The greatest value of any feasible set, in centavos.
+/// The greatest value of any feasible set of a problem of up to ten items, in centavos.
 pub fn best_of(problem: &Problem) -> u64
     requires { length problem.now.items ≤ 10 }
     ensures { IsGreatest problem.now result }

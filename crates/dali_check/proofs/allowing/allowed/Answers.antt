@@ -1,5 +1,6 @@
 use Rattle.std.proofs.Common.{◌≤◌, ℕ, sym, subst}
 use Rattle.dali_problem.specs.Feasible.{value_of}
+use Rattle.dali_check.proofs.Ceiling.{whole_most}
 use Rattle.dali_check.proofs.Summing.{whole_bounds}
 use Rattle.dali_check.proofs.allowing.allowed.Goals as goal
 
@@ -13,6 +14,10 @@ pub returns-in-Ok-check_budget-clause-bound : goal.returns-in-Ok-check_budget-cl
 returns-in-Ok-check_budget-clause-bound c t places feasible =
     whole_bounds c.args.problem.now c.args.choice.now t c.items-items.ensures.bounds c.requires.in_range c.in-Ok.ensures.whole
     c.in-Ok-check_parts.ensures.proved places feasible
+
+pub returns-in-Ok-check_budget-clause-small : goal.returns-in-Ok-check_budget-clause-small
+returns-in-Ok-check_budget-clause-small c =
+    whole_most c.args.problem.now c.args.choice.now c.requires.in_range c.in-Ok.ensures.whole c.in-Ok-check_parts.ensures.lean
 
 pub returns-in-Ok-check_budget-clause-best : goal.returns-in-Ok-check_budget-clause-best
 returns-in-Ok-check_budget-clause-best c same = record {

@@ -19,9 +19,9 @@ returns-clause-some c =
     let marks : List Bool = c.mark_set.new.marks in
     let same : (λ (j : ℕ). get_or marks j false) ≡ has c.args.set.now = tests_are (λ (j : ℕ). get_or marks j false) (has c.args.set.now) c.mark_set.ensures.marked in
     some_map (FirstFails (λ (part : Part). lean_part p part (value_of p (filter (λ (j : ℕ). get_or marks j false) part.members))) c.args.parts.now)
-    (FirstFails (λ (part : Part). lean_part p part (value_in_part p c.args.set.now part)) c.args.parts.now) c.first_wasteful.result
+    (FirstFails (λ (part : Part). lean_part p part (value_in_part p c.args.set.now part)) c.args.parts.now) c.first_not_lean_marked.result
     (λ k fails. subst (λ (m : ℕ → Bool). FirstFails (λ (part : Part). lean_part p part (value_of p (filter m part.members))) c.args.parts.now k) same fails)
-    c.first_wasteful.ensures.some
+    c.first_not_lean_marked.ensures.some
 
 pub returns-clause-none : goal.returns-clause-none
 returns-clause-none c =
@@ -29,6 +29,6 @@ returns-clause-none c =
     let marks : List Bool = c.mark_set.new.marks in
     let same : (λ (j : ℕ). get_or marks j false) ≡ has c.args.set.now = tests_are (λ (j : ℕ). get_or marks j false) (has c.args.set.now) c.mark_set.ensures.marked in
     none_map (All (λ (part : Part). lean_part p part (value_of p (filter (λ (j : ℕ). get_or marks j false) part.members)) ≡ true) c.args.parts.now)
-    (All (λ (part : Part). lean_part p part (value_in_part p c.args.set.now part) ≡ true) c.args.parts.now) c.first_wasteful.result
+    (All (λ (part : Part). lean_part p part (value_in_part p c.args.set.now part) ≡ true) c.args.parts.now) c.first_not_lean_marked.result
     (λ all. subst (λ (m : ℕ → Bool). All (λ (part : Part). lean_part p part (value_of p (filter m part.members)) ≡ true) c.args.parts.now) same all)
-    c.first_wasteful.ensures.none
+    c.first_not_lean_marked.ensures.none

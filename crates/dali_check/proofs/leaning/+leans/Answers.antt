@@ -25,9 +25,9 @@ end-returns-else-not-side-clause-answer t c =
     let place = c.in-Branch.place in
     let led : true ≡ is_led p u c.in-Branch.lam f place = sym c.if-not-branch_holds.false ∙ c.branch_holds.ensures.answer in
     let inside : true ≡ lean_tree p u v c.in-Branch.inside (set f place Chosen) =
-    sym c.if-not-side.false ∙ c.side.ensures.answer ∙ ap (λ (tree : Tree). lean_tree p u v tree (set f place Chosen)) c.get.ensures in
+    sym c.if-not-side.false ∙ c.side.ensures.answer ∙ ap (λ (tree : Tree). lean_tree p u v tree (set f place Chosen)) c.get-inside.ensures in
     let outside : c.side-in-Branch.result ≡ lean_tree p u v c.in-Branch.outside (set f place Left) =
-    c.side-in-Branch.ensures.answer ∙ ap (λ (tree : Tree). lean_tree p u v tree (set c.side.new.partial.marks place Left)) c.get-in-Branch.ensures
+    c.side-in-Branch.ensures.answer ∙ ap (λ (tree : Tree). lean_tree p u v tree (set c.side.new.partial.marks place Left)) c.get-outside.ensures
     ∙ ap (λ (g : List Mark). lean_tree p u v c.in-Branch.outside (set g place Left)) c.side.ensures.marks in
     outside
     ∙ ap (λ b. b && lean_tree p u v c.in-Branch.outside (set f place Left)) (ap (λ b. b && true) led
@@ -42,9 +42,9 @@ end-returns-else-not-side-clause-tight t c told =
     let f : List Mark = c.args.partial.now.marks in
     let place = c.in-Branch.place in
     let first : c.side.new.tight ≡ (c.args.tight.now || tight_tree p u c.in-Branch.inside (set f place Chosen)) =
-    c.side.ensures.tight c.if-not-side.false ∙ ap (λ (tree : Tree). c.args.tight.now || tight_tree p u tree (set f place Chosen)) c.get.ensures in
+    c.side.ensures.tight c.if-not-side.false ∙ ap (λ (tree : Tree). c.args.tight.now || tight_tree p u tree (set f place Chosen)) c.get-inside.ensures in
     c.side-in-Branch.ensures.tight told
-    ∙ ap (λ (tree : Tree). c.side.new.tight || tight_tree p u tree (set c.side.new.partial.marks place Left)) c.get-in-Branch.ensures
+    ∙ ap (λ (tree : Tree). c.side.new.tight || tight_tree p u tree (set c.side.new.partial.marks place Left)) c.get-outside.ensures
     ∙ ap (λ (g : List Mark). c.side.new.tight || tight_tree p u c.in-Branch.outside (set g place Left)) c.side.ensures.marks
     ∙ ap (λ b. b || tight_tree p u c.in-Branch.outside (set f place Left)) first
     ∙ or_assoc c.args.tight.now (tight_tree p u c.in-Branch.inside (set f place Chosen)) (tight_tree p u c.in-Branch.outside (set f place Left))

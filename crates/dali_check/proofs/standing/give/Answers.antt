@@ -1,22 +1,11 @@
-use Rattle.std.proofs.Common.{◌≡◌, inl, inr, List, set, ap, sym, ◌∙◌}
-use Rattle.std.proofs.lemmas.List.{set-set}
+use Rattle.std.proofs.Common.{List, set, ap, sym, ◌∙◌}
+use Rattle.std.proofs.lemmas.List.{set-get_or}
 use Rattle.dali_problem.specs.declared.mark.Mark.{Mark}
-use Rattle.dali_problem.specs.declared.mark.Mark.TheVariants.{Undecided, Chosen, Left}
-use Rattle.dali_check.specs.Room.{as_member}
+use Rattle.dali_problem.specs.declared.mark.Mark.TheVariants.{Stranger}
 use Rattle.dali_check.proofs.standing.give.Goals as goal
 
-pub returns-in-Chosen-clause-marks : goal.returns-in-Chosen-clause-marks
-returns-in-Chosen-clause-marks c =
-    c.fix.ensures.marks ∙ ap (λ (f : List Mark). set f c.args.place Chosen) c.release.ensures.marks
-    ∙ set-set c.args.kept.now.marks c.args.place Undecided Chosen
-    ∙ sym (ap (λ (m : Mark). set c.args.kept.now.marks c.args.place (as_member m)) c.in-Chosen.is)
-
-pub returns-in-Left-clause-marks : goal.returns-in-Left-clause-marks
-returns-in-Left-clause-marks c =
-    let left : as_member c.args.to ≡ Left = elim c.in-Left.is as (λ _. as_member c.args.to ≡ Left) [
-      | inl is ↦ ap as_member is
-      | inr is ↦ ap as_member is
-    ] in
-    c.fix-in-Left.ensures.marks ∙ ap (λ (f : List Mark). set f c.args.place Left) c.release.ensures.marks
-    ∙ set-set c.args.kept.now.marks c.args.place Undecided Left
-    ∙ sym (ap (λ (m : Mark). set c.args.kept.now.marks c.args.place m) left)
+pub returns-then-is_aligned-clause-marks : goal.returns-then-is_aligned-clause-marks
+returns-then-is_aligned-clause-marks c =
+    let f : List Mark = c.args.kept.now.marks in
+    sym (ap (λ (m : Mark). set f c.args.place m) (sym (c.is_aligned.ensures.0 c.if-is_aligned.true) ∙ c.mark.ensures)
+    ∙ set-get_or f c.args.place Stranger)

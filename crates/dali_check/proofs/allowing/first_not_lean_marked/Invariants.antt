@@ -6,7 +6,7 @@ use Rattle.dali_problem.specs.Kept.{IsOf}
 use Rattle.dali_tree.specs.declared.choice.Part.{Part}
 use Rattle.dali_check.specs.Room.{IsReady}
 use Rattle.dali_check.specs.Lean.{lean_part}
-use Rattle.dali_check.proofs.allowing.first_wasteful.Given as goal
+use Rattle.dali_check.proofs.allowing.first_not_lean_marked.Given as goal
 
 abbrev pub invariant-loop-at : goal.invariant-loop-at
 invariant-loop-at l = record {

@@ -6,7 +6,7 @@ use Rattle.dali_problem.specs.Feasible.{value_of}
 use Rattle.dali_tree.specs.declared.choice.Part.{Part}
 use Rattle.dali_check.specs.Lean.{lean_part}
 use Rattle.dali_check.proofs.Firsts.{element_is}
-use Rattle.dali_check.proofs.allowing.first_wasteful.Goals as goal
+use Rattle.dali_check.proofs.allowing.first_not_lean_marked.Goals as goal
 
 -- what a part's test answers, from its parts
 abbrev test_of : Clearing → List Bool → Part → Bool
