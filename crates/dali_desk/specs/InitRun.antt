@@ -1,6 +1,6 @@
-use Rattle.std.specs.Prelude.{◌≡◌, ◌⊎◌, ◌+◌, ◌≤◌, Bool, IsTrue, List, ℕ, [], ◌∷◌, ◌++◌, length}
+use Rattle.std.specs.Prelude.{◌≡◌, ◌⊎◌, ◌+◌, ◌≤◌, Bool, IsTrue, List, ℕ, [], length}
 use Rattle.dali_outside.specs.Outside.{Sight, Rose, Goes, overlay}
-use Rattle.dali_journal.specs.Holds.{head_text}
+use Rattle.dali_journal.specs.Holds.{empty_start}
 use Rattle.dali_journal.specs.Appends.{AtRest, EachHolds}
 use Rattle.dali_desk.specs.declared.status.Status.{Status}
 use Rattle.dali_desk.specs.declared.status.Status.TheVariants.{Done, Usage, ReadFault, PrintFault, DiskFault, LongLine, LongFile, OutOfMemory}
@@ -23,7 +23,7 @@ pub record InitRun (tells : Bool) (old new : Sight) (status : Status) : Type 0 w
   pub statuses : EndsInit status
   pub fault : status ≡ DiskFault → Rose old.disk_faults new.disk_faults
   pub done : IsTrue tells → status ≡ Done → AtRest 16 1 [] new
-  pub bytes : IsTrue tells → status ≡ Done → new.bytes ≡ overlay old.bytes 0 (head_text ++ 0 ∷ 0 ∷ 0 ∷ 1 ∷ 0 ∷ [])
+  pub bytes : IsTrue tells → status ≡ Done → new.bytes ≡ overlay old.bytes 0 empty_start
   pub images : IsTrue tells → status ≡ Done → EachHolds 1 [] new
   pub silent : IsTrue tells → new.printed ≡ old.printed
   pub goes : Goes old new

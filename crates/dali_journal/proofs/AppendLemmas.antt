@@ -4,7 +4,7 @@ use Rattle.dali_outside.specs.Outside.{Moment, Sight, TellsAll, overlay, now}
 use Rattle.dali_outside.specs.Stops.{LeftAtOne, MightHaveLeft, MightHaveLeftAt, Keeps, LeavesOnly}
 use Rattle.dali_outside.specs.Stops.{IsImage}
 use Rattle.dali_outside.proofs.Images.{only_image}
-use Rattle.dali_outside.proofs.Moments.{leaves_start, leaves_on, leaves_weaker}
+use Rattle.dali_outside.proofs.Moments.{left_first, leaves_start, leaves_on, leaves_weaker}
 use Rattle.dali_journal.specs.Holds.{HoldsAt, Holds}
 use Rattle.dali_journal.specs.Frames.{AreFrames, AreShort}
 use Rattle.dali_journal.specs.Appends.{IsFirm, AtRest, Torn, EitherList, Appends}
@@ -88,11 +88,6 @@ module _ (tail edition : ℕ) (list : List (List ℕ)) (bytes : List ℕ) (at : 
     pub gate_torn : (gate : ℕ) → Holds edition list (overlay bytes tail (gate ∷ [])) ⊎ Holds edition (list ++ more) (overlay bytes tail (gate ∷ []))
     gate_torn zero = inl (record { tail = tail; at = gate_closed })
     gate_torn (suc n) = inr (record { tail = tail + length frames; at = gate_opened (suc n) (λ e. absurd (omega (arith, e))) })
-
-left_first : (ms ns : List Moment) (image text : List ℕ) → LeftAtOne ms image text → LeftAtOne (ms ++ ns) image text
-left_first [] ns image text left = absurd left
-left_first (m ∷ ms) ns image text (inl here) = inl here
-left_first (m ∷ ms) ns image text (inr later) = inr (left_first ms ns image text later)
 
 one_of : (ms : List Moment) (image text : List ℕ) → LeftAtOne (take 1 ms) image text → LeftAtOne ms image text
 one_of [] image text left = absurd left

@@ -2,7 +2,7 @@ use Rattle.std.proofs.Common.{◌≡◌, ◌≢◌, ◌∙◌, ℕ, suc, ◌+◌
 use Rattle.std.specs.Int.{w32, to_be_bytes}
 use Rattle.std.proofs.lemmas.List.{take_at, drop_at, take_all, length-append, length-drop, drop-drop, map-append}
 use Rattle.dali_journal.specs.Holds.{gated}
-use Rattle.dali_journal.specs.Frames.{frame_of, open_records, AreFrames, AreShort, frames_length}
+use Rattle.dali_journal.specs.Frames.{frame_of, payload_of, open_records, AreFrames, AreShort, frames_length}
 use Rattle.dali_journal.specs.GroupText.{payloads}
 
 pub payloads_length : (lens text : List ℕ) → length (payloads lens text) ≡ length lens
@@ -88,3 +88,17 @@ pub frame_are : (payload frame : List ℕ) → frame ≡ frame_of payload → Ar
 frame_are payload frame is =
     let be = to_be_bytes w32 (length payload) in
     ap (λ bs. 1 ∷ bs) (is ∙ sym (append_assoc be payload (0 ∷ []))) ∙ ap (λ bs. bs ++ 0 ∷ []) (sym (append-nil (gated 1 payload)))
+
+-- a frame is five bytes longer than its payload
+frame_length : (payload : List ℕ) → length (frame_of payload) ≡ length payload + 5
+frame_length payload =
+    let closed : length (payload ++ 0 ∷ []) ≡ length payload + 1 = length-append payload (0 ∷ []) in
+    let four : length (to_be_bytes w32 (length payload)) ≡ 4 = refl in
+    let both : length (frame_of payload) ≡ length (to_be_bytes w32 (length payload)) + length (payload ++ 0 ∷ []) = length-append (to_be_bytes w32 (length payload)) (payload ++ 0 ∷ []) in
+    omega (arith, closed, four, both)
+
+-- a frame that isn't too long is that of a payload whose length fits in its four bytes
+pub framed_short : (frame : List ℕ) → frame ≡ frame_of (payload_of frame) → length frame ≤ 536870917 → AreShort (payload_of frame ∷ [])
+framed_short frame is short =
+    let long : length frame ≡ length (frame_of (payload_of frame)) = ap length is in
+    (omega (arith, long, frame_length (payload_of frame), short), tt)

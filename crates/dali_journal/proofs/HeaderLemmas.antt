@@ -2,7 +2,7 @@ use Rattle.std.proofs.Common.{◌≡◌, ◌≢◌, ◌∙◌, ◌⊎◌, inl, i
 use Rattle.std.proofs.lemmas.List.{take-append-drop, length-drop, take-append-le, drop-append-le}
 use Rattle.std.proofs.Math.Seq.{drop-append-add, take-append-add}
 use Rattle.dali_outside.specs.Outside.{Sight, overlay}
-use Rattle.dali_journal.specs.Holds.{head_text, AreMarks, IsHeader, StandsTo, HoldsAt}
+use Rattle.dali_journal.specs.Holds.{head_text, empty_start, AreMarks, IsHeader, StandsTo, HoldsAt}
 use Rattle.dali_journal.specs.Appends.{IsFirm, AtRest, Torn, EitherEdition}
 use Rattle.dali_outside.specs.Stops.{LeavesOnly}
 use Rattle.dali_outside.proofs.Moments.{leaves_weaker}
@@ -200,7 +200,7 @@ raised tail edition list old new rest below firm bytes = record {
 }
 
 -- the empty journal
-pub empty_at : (bytes : List ℕ) → HoldsAt 16 1 [] (overlay bytes 0 (head_text ++ (0 ∷ 0 ∷ 0 ∷ 1 ∷ 0 ∷ [])))
+pub empty_at : (bytes : List ℕ) → HoldsAt 16 1 [] (overlay bytes 0 empty_start)
 empty_at bytes = record {
   header = head_text ++ ((0 ∷ 0 ∷ 0 ∷ []) ++ 1 ∷ []);
   is_header = record { j = 0; edition_is = refl; marks = 0 ∷ 0 ∷ 0 ∷ []; three = refl; set = refl; whole = refl };

@@ -1,10 +1,14 @@
-use Rattle.std.specs.Prelude.{◌≡◌, ℕ, ◌+◌, ◌<◌, ◌^◌, List, [], ◌∷◌, ◌++◌, length}
+use Rattle.std.specs.Prelude.{◌≡◌, ℕ, ◌+◌, ◌-◌, ◌<◌, ◌^◌, List, [], ◌∷◌, ◌++◌, length, take, drop}
 use Rattle.std.specs.Int.{w32, to_be_bytes}
 use Rattle.dali_journal.specs.Holds.{gated}
 
 -- a payload's frame: its length in four bytes, the payload, and a closed gate
 abbrev pub frame_of : List ℕ → List ℕ
 frame_of payload = to_be_bytes w32 (length payload) ++ (payload ++ 0 ∷ [])
+
+-- the payload of a frame: what stands between its length and its gate
+abbrev pub payload_of : List ℕ → List ℕ
+payload_of frame = take (length frame - 5) (drop 4 frame)
 
 -- the records of these payloads, each behind a gate that is 1
 abbrev pub open_records : List (List ℕ) → List ℕ

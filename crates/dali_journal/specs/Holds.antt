@@ -5,6 +5,10 @@ use Rattle.std.specs.Int.{w32, to_be_bytes}
 abbrev pub head_text : List ℕ
 head_text = codes "DALI-JOURNAL"
 
+-- the first bytes of an empty journal of edition 1: its header, and a closed gate
+abbrev pub empty_start : List ℕ
+empty_start = head_text ++ 0 ∷ 0 ∷ 0 ∷ 1 ∷ 0 ∷ []
+
 -- j bytes other than 0, and then bytes 0
 abbrev pub AreMarks : ℕ → List ℕ → Type 0
 AreMarks zero marks = marks ≡ replicate (length marks) 0

@@ -1,6 +1,6 @@
-ghost use Rattle.std.specs.Prelude.{◌≡◌, ◌≢◌, ◌↔◌, ◌+◌, ◌-◌, ◌≤◌, ◌<◌, ◌^◌, ◌++◌, [], ◌∷◌, ℕ, List, true, false, length, is_ok, OnOk, OnErr, IsErrOf, IsTrue};
+ghost use Rattle.std.specs.Prelude.{◌≡◌, ◌≢◌, ◌↔◌, ◌+◌, ◌-◌, ◌≤◌, ◌<◌, [], ◌∷◌, ℕ, List, true, false, length, is_ok, OnOk, OnErr, IsErrOf, IsTrue};
 ghost use Rattle.dali_outside.specs.Outside.{Rose, Goes, overlay};
-ghost use Rattle.dali_journal.specs.Frames.{frame_of, frames_length, AreFrames, AreShort};
+ghost use Rattle.dali_journal.specs.Frames.{payload_of, frames_length, AreFrames, AreShort};
 ghost use Rattle.dali_journal.specs.Appends.{AtRest, Appends};
 
 use crate::firm::write_firm;
@@ -14,7 +14,7 @@ impl Journal {
     /// Appends the payload of a frame, under the condition that a `next_record` gave `None`. Takes no memory.
     ///
     /// Where nothing is loose and the device holds a list, whose closed gate is the tail: each stop in the call leaves
-    /// the list, or the list with the payload at its end; the longer one only after the first of the two syncs; and
+    /// the list, or the list with that payload at its end; the longer one only after the first of the two syncs; and
     /// after Ok the device holds the longer one, nothing is loose, and the tail is its closed gate.
     ///
     /// `JournalFull` comes exactly where the frame and the gate before it don't fit, with the bytes that they need and
@@ -23,9 +23,8 @@ impl Journal {
     pub fn append<T: Site>(&mut self, site: &mut T, frame: &Sealed) -> Result<(), AppendNo>
         requires at_site { self.old.tail + self.old.left ≡ (T.sight site.old).size }
         requires ended { self.old.ended ≡ true }
-        ensures stops { IsTrue T.tells → (edition : ℕ) (list : List (List ℕ)) (payload : List ℕ) → frame.now ≡ frame_of payload → length payload < 2 ^ 32 →
-            AtRest self.old.tail edition list (T.sight site.old) →
-            Appends (is_ok result) self.old.tail edition list (payload ∷ []) frame.now (T.sight site.old) (T.sight site.new) }
+        ensures stops { IsTrue T.tells → (edition : ℕ) (list : List (List ℕ)) → AtRest self.old.tail edition list (T.sight site.old) →
+            Appends (is_ok result) self.old.tail edition list (payload_of frame.now ∷ []) frame.now (T.sight site.old) (T.sight site.new) }
         ensures bytes { IsTrue T.tells → OnOk result ((T.sight site.new).bytes ≡ overlay (T.sight site.old).bytes self.old.tail (1 ∷ frame.now)) }
         ensures moved { OnOk result (self.new ≡ record self.old { tail = self.old.tail + length frame.now; left = self.old.left - length frame.now }) }
         ensures fits { OnOk result (length frame.now < self.old.left) }

@@ -2,8 +2,9 @@
 //!
 //! The promise to the crates above: an image holds at most one list of payloads; whatever moment a stop comes at, an
 //! append leaves an image of the list before it or of the longer one, and after Ok only of the longer one; a journal is
-//! read back record by record as it stands; and each damage is told exactly where it is. What an image holds is defined
-//! in `specs/Holds.antt`, what an append does in `specs/Appends.antt`.
+//! read back record by record as it stands; and a device that is too short, a header that is none, and a length that
+//! doesn't fit are told exactly where they are. What an image holds is defined in `specs/Holds.antt`, what an append does
+//! in `specs/Appends.antt`.
 #![tactic(auto)]
 
 mod appending;

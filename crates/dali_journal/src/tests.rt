@@ -1,11 +1,14 @@
-ghost use Rattle.std.specs.Prelude.{◌≡◌, ◌⊎◌, ◌≤◌, ◌+◌, true, length, IfOk, OnOk, IfSome};
+ghost use Rattle.std.specs.Prelude.{◌≡◌, ◌≤◌, ◌+◌, true, length, IfOk, OnOk, IfSome};
 
 use crate::{AppendNo, Damage, Group, Journal, OpenNo, format, frame, open_journal};
 use dali_base::{OutOfMemory, Text};
-use dali_outside::{Fault, Faults, MemSite, Site};
+use dali_outside::{Faults, MemSite};
 use std::alloc::Global;
 use std::process::Abort;
 use std::test::Fail;
+
+mod calls;
+mod stops;
 
 /// The record of `080000,PART,A` in edition 1.
 const A: &[u8] = b"\x01\0\x0d080000,PART,A\0";
@@ -19,6 +22,15 @@ const ISSUE: &[u8] = b"\x01\0\x16080001,ISSUE,A,MXN,100\0";
 /// The first 17 bytes of an empty journal of edition 1.
 const EMPTY: &[u8] = b"DALI-JOURNAL\0\0\0\x01\0";
 
+/// The bytes of the journal of the first record.
+const ONE: &[u8] = b"DALI-JOURNAL\0\0\0\x01\
+\x01\0\0\0\x11\x01\0\x0d080000,PART,A\0\0";
+
+/// The bytes of the journal of the first two records.
+const TWO: &[u8] = b"DALI-JOURNAL\0\0\0\x01\
+\x01\0\0\0\x11\x01\0\x0d080000,PART,A\0\
+\x01\0\0\0\x11\x01\0\x0d080000,PART,B\0\0";
+
 /// The bytes of the journal of these three records.
 const THREE: &[u8] = b"DALI-JOURNAL\0\0\0\x01\
 \x01\0\0\0\x11\x01\0\x0d080000,PART,A\0\
@@ -31,6 +43,20 @@ fn text(alloc: Global, bytes: &[u8]) -> Result<Text, OutOfMemory>
     let mut text = Text::new(alloc);
     text.add(bytes)?;
     Ok(text)
+}
+
+/// A device of 128 bytes: these, and 0 behind them.
+fn device(front: &[u8]) -> [u8; 128]
+    requires { length front.now ≤ 128 }
+{
+    let mut bytes = [0; 128];
+    bytes[..front.len()].copy_from_slice(front);
+    bytes
+}
+
+/// The first 64 bytes of a device.
+fn small(device: &[u8; 128]) -> &[u8] {
+    &device[..64]
 }
 
 /// A site of these bytes.
@@ -55,17 +81,7 @@ fn init_bytes(rt: HostRuntime) -> Result<(), Fail> {
     let alloc = rt.alloc();
     let mut site = MemSite::new(alloc, 64, 0, 64, 4096, Faults::new(alloc))?;
     assert!(rt; format(&mut site).is_ok());
-    assert!(rt; site.bytes().starts_with(EMPTY));
-    Ok(())
-}
-
-#[test]
-fn format_fails_with_its_first_call(rt: HostRuntime) -> Result<(), Fail> {
-    let alloc = rt.alloc();
-    let mut fails = Faults::new(alloc);
-    fails.push(Fault { call: 1, went: 3 })?;
-    let mut site = MemSite::new(alloc, 64, 0, 64, 4096, fails)?;
-    assert!(rt; format(&mut site).is_err());
+    assert_eq!(rt; site.bytes(), small(&device(EMPTY)));
     Ok(())
 }
 
@@ -116,9 +132,11 @@ fn three_appends(rt: HostRuntime) -> Result<(), Fail> {
     };
     appends(&rt, alloc, &mut journal, &mut site, A, 38)?;
     appends(&rt, alloc, &mut journal, &mut site, B, 60)?;
+    assert_eq!(rt; site.bytes(), small(&device(TWO)));
     let third = journal.append(&mut site, &frame(alloc, A)?);
     assert_eq!(rt; third, Err(AppendNo::JournalFull { need: 23, left: 4 }));
     assert_eq!(rt; journal.left(), 4);
+    assert_eq!(rt; site.bytes(), small(&device(TWO)));
     Ok(())
 }
 
@@ -132,7 +150,7 @@ fn one_by_one(rt: HostRuntime) -> Result<(), Fail> {
     appends(&rt, alloc, &mut journal, &mut site, A, 38)?;
     appends(&rt, alloc, &mut journal, &mut site, B, 60)?;
     appends(&rt, alloc, &mut journal, &mut site, ISSUE, 91)?;
-    assert!(rt; site.bytes().starts_with(THREE));
+    assert_eq!(rt; site.bytes(), device(THREE).as_slice());
     Ok(())
 }
 
@@ -142,6 +160,16 @@ fn three(alloc: Global) -> Result<Group, OutOfMemory>
 {
     let mut group = Group::new(alloc)?;
     group.add(A);
+    group.add(B);
+    group.add(ISSUE);
+    Ok(group)
+}
+
+/// A group of the second and the third record.
+fn two_more(alloc: Global) -> Result<Group, OutOfMemory>
+    ensures { IfOk result (λ group. length group ≡ 2) }
+{
+    let mut group = Group::new(alloc)?;
     group.add(B);
     group.add(ISSUE);
     Ok(group)
@@ -158,7 +186,7 @@ fn in_one_group(rt: HostRuntime) -> Result<(), Fail> {
     assert_eq!(rt; (group.len(), group.bytes()), (3, 75));
     assert_eq!(rt; journal.append_group(&mut site, &group), Ok(()));
     assert_eq!(rt; journal.tail(), 91);
-    assert!(rt; site.bytes().starts_with(THREE));
+    assert_eq!(rt; site.bytes(), device(THREE).as_slice());
     Ok(())
 }
 
@@ -169,45 +197,6 @@ fn a_cleared_group(rt: HostRuntime) -> Result<(), Fail> {
     group.add(A);
     assert_eq!(rt; (group.len(), group.bytes()), (1, 22));
     Ok(())
-}
-
-/// A site with a journal of the first record, open at its end.
-fn with_first(alloc: Global) -> Result<Option<(MemSite, Journal)>, OutOfMemory>
-    ensures { IfOk result (λ o. IfSome o (λ both. (both.1.tail + both.1.left ≡ both.0.sight.size) × (both.1.ended ≡ true))) }
-{
-    let mut site = formatted(alloc, 128, Faults::new(alloc))?;
-    let sealed = frame(alloc, A)?;
-    let Some(mut journal) = at_end(alloc, &mut site) else {
-        return Ok(None);
-    };
-    match journal.append(&mut site, &sealed) {
-        Ok(()) => Ok(Some((site, journal))),
-        Err(_) => Ok(None),
-    }
-}
-
-/// Whether the append of a second record works where every call after so many fails, and what a stop then leaves.
-fn stopped(alloc: Global, calls: u64, fill: u8) -> Result<Option<(bool, Text)>, OutOfMemory> {
-    let sealed = frame(alloc, B)?;
-    let Some((mut site, mut journal)) = with_first(alloc)? else {
-        return Ok(None);
-    };
-    site.fuse(calls);
-    let worked = journal.append(&mut site, &sealed).is_ok();
-    Ok(Some((worked, site.stop_image(alloc, fill)?)))
-}
-
-/// The same for the append of two further records in one group.
-fn group_stopped(alloc: Global, calls: u64, fill: u8) -> Result<Option<(bool, Text)>, OutOfMemory> {
-    let mut group = Group::new(alloc)?;
-    group.add(B);
-    group.add(ISSUE);
-    let Some((mut site, mut journal)) = with_first(alloc)? else {
-        return Ok(None);
-    };
-    site.fuse(calls);
-    let worked = journal.append_group(&mut site, &group).is_ok();
-    Ok(Some((worked, site.stop_image(alloc, fill)?)))
 }
 
 /// The next record is this one.
@@ -237,48 +226,6 @@ fn holds(rt: &impl Abort, alloc: Global, image: &[u8], list: &[&[u8]]) -> Result
     reads(rt, alloc, &mut journal, &mut site, list.get(1).copied());
     reads(rt, alloc, &mut journal, &mut site, list.get(2).copied());
     reads(rt, alloc, &mut journal, &mut site, None);
-    Ok(())
-}
-
-/// How many records stand after a stop behind so many calls of an append: the gate is written by the third, and firm by
-/// the fourth; in between, a stop may leave any byte there.
-fn standing(calls: u64, fill: u8, before: usize, after: usize) -> usize
-    ensures { result ≡ before ⊎ result ≡ after }
-{
-    if calls >= 4 || (calls >= 2 && fill != 0) {
-        after
-    } else {
-        before
-    }
-}
-
-#[test]
-fn stops_of_append(rt: HostRuntime) -> Result<(), Fail> {
-    for calls in 0..6 {
-        for fill in [0, 1, 255] {
-            let Some((worked, image)) = stopped(rt.alloc(), calls, fill)? else {
-                panic!(&rt; "open");
-            };
-            assert_eq!(rt; worked, calls >= 4);
-            let count = standing(calls, fill, 1, 2);
-            holds(&rt, rt.alloc(), image.bytes(), &[A, B][..count])?;
-        }
-    }
-    Ok(())
-}
-
-#[test]
-fn stops_of_append_group(rt: HostRuntime) -> Result<(), Fail> {
-    for calls in 0..6 {
-        for fill in [0, 1, 255] {
-            let Some((worked, image)) = group_stopped(rt.alloc(), calls, fill)? else {
-                panic!(&rt; "open");
-            };
-            assert_eq!(rt; worked, calls >= 4);
-            let count = standing(calls, fill, 1, 3);
-            holds(&rt, rt.alloc(), image.bytes(), &[A, B, ISSUE][..count])?;
-        }
-    }
     Ok(())
 }
 
@@ -348,6 +295,18 @@ fn lengths(rt: HostRuntime) {
 }
 
 #[test]
+fn zero_record(rt: HostRuntime) -> Result<(), Fail> {
+    let alloc = rt.alloc();
+    let mut site = site_of(alloc, &with_length([0, 0, 0, 0x2a]))?;
+    let Ok(mut journal) = open_journal(alloc, &mut site) else {
+        panic!(&rt; "open");
+    };
+    reads(&rt, alloc, &mut journal, &mut site, Some(&[0; 42]));
+    assert_eq!(rt; (journal.tail(), journal.left()), (63, 1));
+    Ok(())
+}
+
+#[test]
 fn smallest_device(rt: HostRuntime) -> Result<(), Fail> {
     let alloc = rt.alloc();
     let mut site = site_of(alloc, EMPTY)?;
@@ -356,6 +315,7 @@ fn smallest_device(rt: HostRuntime) -> Result<(), Fail> {
     };
     let answer = journal.append(&mut site, &frame(alloc, A)?);
     assert_eq!(rt; answer, Err(AppendNo::JournalFull { need: 23, left: 1 }));
+    assert_eq!(rt; site.bytes(), EMPTY);
     Ok(())
 }
 
