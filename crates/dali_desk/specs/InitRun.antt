@@ -1,4 +1,4 @@
-use Rattle.std.specs.Prelude.{◌≡◌, ◌⊎◌, ◌+◌, ◌≤◌, Bool, IsTrue, List, ℕ, [], length}
+use Rattle.std.specs.Prelude.{◌≡◌, ◌+◌, ◌≤◌, Bool, IsTrue, []}
 use Rattle.dali_outside.specs.Outside.{Sight, Rose, Goes, overlay}
 use Rattle.dali_journal.specs.Holds.{empty_start}
 use Rattle.dali_journal.specs.Appends.{AtRest, EachHolds}
