@@ -7,6 +7,14 @@ mod building;
 #[cfg(test)]
 mod choices;
 #[cfg(test)]
+mod depth;
+#[cfg(test)]
+mod fitting;
+#[cfg(test)]
+mod judging;
+#[cfg(test)]
+mod leaning;
+#[cfg(test)]
 mod plain;
 #[cfg(test)]
 mod problems;

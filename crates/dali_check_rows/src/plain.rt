@@ -1,9 +1,9 @@
 ghost use Rattle.std.specs.Prelude.{◌≤◌, length};
 ghost use Rattle.dali_check.specs.Room.{IsFor};
 
-use crate::choices::{bound, choice, one_part, two_branches};
+use crate::choices::{bound, choice, one_part, two_branches, two_parts};
 use crate::problems::{
-    delivery_chain, linked_deliveries, ring, ring_beside_unpayable, three_payments,
+    delivery_chain, linked_deliveries, payments_apart, ring, ring_beside_unpayable, three_payments,
 };
 use dali_check::{Scratch, allowed, fits};
 use dali_plain::{best_of, is_feasible_mask, places_of_mask, value_of_mask};
@@ -30,7 +30,16 @@ fn agrees(rt: &impl Abort, alloc: Global, problem: &Problem, best: u64) {
     assert_eq!(rt; best_of(problem), best);
 }
 
-/// The choice is allowed. The bound of its first part, in centavos.
+/// The sum of the bounds of all parts, in centavos.
+fn sum_of_bounds(rt: &impl Abort, choice: &Choice) -> u64 {
+    let mut total: u64 = 0;
+    for part in choice.parts.as_slice() {
+        total = total.checked_add(part.bound).expect(rt, "small bounds");
+    }
+    total
+}
+
+/// The choice is allowed, and its set is best where it is worth the sum of the bounds. That sum, in centavos.
 fn allowed_bound(
     rt: &impl Abort,
     problem: &Problem,
@@ -43,7 +52,13 @@ fn allowed_bound(
 {
     assert!(rt; fits(problem, choice));
     assert!(rt; allowed(problem, budget, choice, scratch).is_ok());
-    choice.parts.as_slice().first().map_or(0, |part| part.bound)
+    assert!(rt; problem.items() <= 10);
+    let bounds = sum_of_bounds(rt, choice);
+    let value = problem.value_of(&choice.places);
+    let best = best_of(problem);
+    assert!(rt; best <= bounds);
+    assert!(rt; value != bounds || value == best);
+    bounds
 }
 
 #[test]
@@ -104,4 +119,15 @@ fn one_of_three(rt: HostRuntime) {
     let tree = two_branches(alloc, 4096).expect(&rt, "memory");
     let closed = choice(alloc, 4, tree).expect(&rt, "memory");
     assert_eq!(rt; allowed_bound(&rt, &problem, 2, &closed, &mut scratch), 4);
+}
+
+/// One of three payments, and one apart from them.
+#[test]
+fn two_queues(rt: HostRuntime) {
+    let alloc = rt.alloc();
+    let problem = payments_apart(&rt, alloc);
+    agrees(&rt, alloc, &problem, 9);
+    let mut scratch = Scratch::new(alloc, &problem).expect(&rt, "memory");
+    let both = two_parts(alloc, 5).expect(&rt, "memory");
+    assert_eq!(rt; allowed_bound(&rt, &problem, 2, &both, &mut scratch), 9);
 }

@@ -64,6 +64,55 @@ pub(crate) fn three_payments(rt: &impl Abort, alloc: Global) -> Problem {
     problem
 }
 
+/// The lines and items of `three_payments`, and behind them a line with 5, an empty one, and an item of value 5 that moves
+/// 5 between these.
+pub(crate) fn payments_apart(rt: &impl Abort, alloc: Global) -> Problem {
+    let mut problem = Problem::new(alloc);
+    put_line(rt, &mut problem, line(b"A", b"MXN", 7));
+    put_line(rt, &mut problem, empty_line(b"B"));
+    put_line(rt, &mut problem, line(b"C", b"MXN", 5));
+    put_line(rt, &mut problem, empty_line(b"D"));
+    let moves = [effect(0, -4), effect(1, 4)];
+    put_item(rt, &mut problem, name(b"P1"), 4, &moves);
+    put_item(rt, &mut problem, name(b"P2"), 4, &moves);
+    put_item(rt, &mut problem, name(b"P3"), 4, &moves);
+    let apart = [effect(2, -5), effect(3, 5)];
+    put_item(rt, &mut problem, name(b"P4"), 5, &apart);
+    problem
+}
+
+/// A line with 10 and an empty one, and three items that move 6, 5 and 5, which are their values.
+pub(crate) fn two_fives(rt: &impl Abort, alloc: Global) -> Problem {
+    let mut problem = Problem::new(alloc);
+    put_line(rt, &mut problem, line(b"A", b"MXN", 10));
+    put_line(rt, &mut problem, empty_line(b"B"));
+    let six = [effect(0, -6), effect(1, 6)];
+    let five = [effect(0, -5), effect(1, 5)];
+    put_item(rt, &mut problem, name(b"P1"), 6, &six);
+    put_item(rt, &mut problem, name(b"P2"), 5, &five);
+    put_item(rt, &mut problem, name(b"P3"), 5, &five);
+    problem
+}
+
+/// The id of an item, `P` and the four digits of its place.
+fn numbered(rt: &impl Abort, place: u32) -> Name {
+    let thousands = b'0' + (place / 1000 % 10) as u8;
+    let hundreds = b'0' + (place / 100 % 10) as u8;
+    let tens = b'0' + (place / 10 % 10) as u8;
+    let ones = b'0' + (place % 10) as u8;
+    read_name(&[b'P', thousands, hundreds, tens, ones]).expect(rt, "a name")
+}
+
+/// A line with 4, and so many items of value 4 that each take 4 from it.
+pub(crate) fn one_of_many(rt: &impl Abort, alloc: Global, items: u32) -> Problem {
+    let mut problem = Problem::new(alloc);
+    put_line(rt, &mut problem, line(b"A", b"MXN", 4));
+    for place in 0..items {
+        put_item(rt, &mut problem, numbered(rt, place), 4, &[effect(0, -4)]);
+    }
+    problem
+}
+
 /// A line with 6 and an empty one, and two items that move 5 and 6, which are their values.
 pub(crate) fn greater_payment(rt: &impl Abort, alloc: Global) -> Problem {
     let mut problem = Problem::new(alloc);

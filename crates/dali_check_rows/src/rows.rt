@@ -1,40 +1,11 @@
 ghost use Rattle.dali_check.specs.Room.{IsFor};
 
-use crate::choices::{bound, choice, listed, one_part, two_branches};
-use crate::problems::{delivery_chain, greater_payment, ring, three_payments};
-use dali_check::{NotAllowed, Scratch, allowed, fits, lean, proves};
+use crate::choices::{bound, choice, listed, one_part, two_branches, two_parts};
+use crate::judging::{is_lean, is_proved, reason_against};
+use crate::problems::{delivery_chain, greater_payment, payments_apart, ring, three_payments};
+use dali_check::{NotAllowed, Scratch, allowed, fits};
 use dali_problem::Problem;
 use dali_tree::{Choice, Part};
-
-/// Whether the choice fits and its first part's tree proves its bound.
-fn is_proved(problem: &Problem, choice: &Choice, scratch: &mut Scratch) -> bool
-    requires { IsFor problem.now scratch.old }
-    ensures { IsFor problem.now scratch.new }
-{
-    if !fits(problem, choice) {
-        return false;
-    }
-    let parts = choice.parts.as_slice();
-    if parts.is_empty() {
-        return false;
-    }
-    proves(problem, &parts[0], scratch)
-}
-
-/// Whether the choice fits and its first part is lean with this value.
-fn is_lean(problem: &Problem, choice: &Choice, value: u64, scratch: &mut Scratch) -> bool
-    requires { IsFor problem.now scratch.old }
-    ensures { IsFor problem.now scratch.new }
-{
-    if !fits(problem, choice) {
-        return false;
-    }
-    let parts = choice.parts.as_slice();
-    if parts.is_empty() {
-        return false;
-    }
-    lean(problem, &parts[0], value, scratch)
-}
 
 #[test]
 fn proves_branches(rt: HostRuntime) {
@@ -76,18 +47,6 @@ fn lean_roots(rt: HostRuntime) {
     let loose = choice(alloc, 8, tree).expect(&rt, "memory");
     assert!(rt; is_proved(&problem, &loose, &mut scratch));
     assert!(rt; !is_lean(&problem, &loose, 4, &mut scratch));
-}
-
-#[test]
-fn fits_in_range(rt: HostRuntime) {
-    let alloc = rt.alloc();
-    let problem = three_payments(&rt, alloc);
-    let tree = bound(alloc, &[], &[(1, 1)]).expect(&rt, "memory");
-    let inside = choice(alloc, 7, tree).expect(&rt, "memory");
-    assert!(rt; fits(&problem, &inside));
-    let tree = bound(alloc, &[], &[(2, 1)]).expect(&rt, "memory");
-    let outside = choice(alloc, 7, tree).expect(&rt, "memory");
-    assert!(rt; !fits(&problem, &outside));
 }
 
 #[test]
@@ -197,6 +156,31 @@ fn shared_line(rt: HostRuntime) {
     split.parts.push(part).expect(&rt, "memory");
     let found = reason(&problem, 0, &split, &mut scratch);
     assert_eq!(rt; found, Some(NotAllowed::Shared));
+}
+
+/// A part by itself is allowed with the bound 5; its bound 4 isn't proved, and no end of its tree has the bound 6.
+#[test]
+fn second_part(rt: HostRuntime) {
+    let alloc = rt.alloc();
+    let problem = payments_apart(&rt, alloc);
+    let unproved = Some(NotAllowed::Unproved { part: 1 });
+    let not_lean = Some(NotAllowed::NotLean { part: 1 });
+    for (second, wanted) in [(5, None), (4, unproved), (6, not_lean)] {
+        let both = two_parts(alloc, second).expect(&rt, "memory");
+        let found = reason_against(&rt, alloc, &problem, 2, &both);
+        assert_eq!(rt; found, wanted);
+    }
+}
+
+/// All three places are the rest, and can't be paid together; each can by itself.
+#[test]
+fn one_place_more(rt: HostRuntime) {
+    let alloc = rt.alloc();
+    let problem = three_payments(&rt, alloc);
+    let tree = bound(alloc, &[], &[]).expect(&rt, "memory");
+    let empty = one_part(alloc, &[], &[0, 1, 2], 12, tree).expect(&rt, "memory");
+    let found = reason_against(&rt, alloc, &problem, 0, &empty);
+    assert_eq!(rt; found, Some(NotAllowed::Addable));
 }
 
 #[test]

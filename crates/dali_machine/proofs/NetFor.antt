@@ -22,8 +22,8 @@ use Rattle.dali_queue.specs.Changed.{moves_of, move_of}
 use Rattle.dali_queue.specs.Instruction.{at_pair, moved, effect}
 use Rattle.dali_queue.specs.NetOf.{delta_of, IsNetOf}
 use Rattle.dali_queue.proofs.NetLemmas.{moves_net, moves_deltas}
-use Rattle.dali_machine.specs.Refusals.{pairs_of}
-use Rattle.dali_machine.specs.Effects.{moves_at, pairs_of_all, net_of}
+use Rattle.dali_machine.specs.Refusals.{changed_pairs}
+use Rattle.dali_machine.specs.Effects.{moves_at, all_changed_pairs, net_of}
 use Rattle.dali_machine.proofs.Allowed.{left_false, right_false}
 
 abbrev pub tied : PairKey → PairKey → Bool
@@ -112,33 +112,33 @@ module _ (i : Instruction) where
   pub alone_is : (pair : PairKey) → alone pair ≡ effect i pair
   alone_is pair = omega (arith, ints)
 
-  keys_are : (q : PairKey) → list_any (tied q) (pairs_of_all (i ∷ [])) ≡ list_any (tied q) (pairs_of i)
+  keys_are : (q : PairKey) → list_any (tied q) (all_changed_pairs (i ∷ [])) ≡ list_any (tied q) (changed_pairs i)
   keys_are q =
-      let entries : List (PairKey × Unit {0}) = map (λ (pair : PairKey). (pair, tt {0})) (pairs_of i) in
+      let entries : List (PairKey × Unit {0}) = map (λ (pair : PairKey). (pair, tt {0})) (changed_pairs i) in
       sym (finite.contains_key-keys (finite.from_entries {R = pair_cmp} entries) q)
       ∙ ap is_some (finite.get-from_entries pair_total entries q) ∙ is_some-find pair_cmp q entries
 
-  pairs_rise : IsStrictlySortedBy pair_cmp (pairs_of_all (i ∷ []))
+  pairs_rise : IsStrictlySortedBy pair_cmp (all_changed_pairs (i ∷ []))
   pairs_rise =
-      let entries : List (PairKey × Unit {0}) = map (λ (pair : PairKey). (pair, tt {0})) (pairs_of i) in
+      let entries : List (PairKey × Unit {0}) = map (λ (pair : PairKey). (pair, tt {0})) (changed_pairs i) in
       let m : finite.FinMap pair_cmp (Unit {0}) = finite.from_entries {R = pair_cmp} entries in
       sorted_keys (finite.entries m) (told (is_sorted pair_cmp (finite.entries m)) (finite.entries_sorted m))
 
   -- what holds of its four pairs holds of all moves of its net
-  pub net_all : (P : Move → Type 0) → AllByRecursion (λ q. P (record { account = q.0; asset = q.1; delta = alone q })) (pairs_of i) → All P (net_of (i ∷ []))
+  pub net_all : (P : Move → Type 0) → AllByRecursion (λ q. P (record { account = q.0; asset = q.1; delta = alone q })) (changed_pairs i) → All P (net_of (i ∷ []))
   unfolding net_of
-  net_all P h = moves_all P alone (pairs_of_all (i ∷ []))
-      (all_of (λ q. P (record { account = q.0; asset = q.1; delta = alone q })) (pairs_of_all (i ∷ []))
-      (λ q e. any_of (λ q. P (record { account = q.0; asset = q.1; delta = alone q })) (pairs_of i) h q (sym (keys_are q) ∙ e)))
+  net_all P h = moves_all P alone (all_changed_pairs (i ∷ []))
+      (all_of (λ q. P (record { account = q.0; asset = q.1; delta = alone q })) (all_changed_pairs (i ∷ []))
+      (λ q e. any_of (λ q. P (record { account = q.0; asset = q.1; delta = alone q })) (changed_pairs i) h q (sym (keys_are q) ∙ e)))
 
   at_none : (p q : PairKey) (z : ℤ) → tied q p ≡ false → at_pair p.0 p.1 z q ≡ pos 0
   at_none p q z apart = ap (λ b. pick b z) (ap (λ t. t && same_name p.1 q.1) (same_name_symm p.0 q.0) ∙ ap (λ t. same_name q.0 p.0 && t) (same_name_symm p.1 q.1) ∙ pair_ties q p ∙ apart)
 
   -- it changes no other pair
-  pub effect_outside : (q : PairKey) → list_any (tied q) (pairs_of i) ≡ false → effect i q ≡ pos 0
+  pub effect_outside : (q : PairKey) → list_any (tied q) (changed_pairs i) ≡ false → effect i q ≡ pos 0
   unfolding effect moved
   effect_outside q none =
-      let apart = none_of (tied q) (pairs_of i) none in
+      let apart = none_of (tied q) (changed_pairs i) none in
       let one = at_none (i.giver, i.code) q (pos i.quantity) apart.0 in
       let two = at_none (i.taker, i.code) q (pos i.quantity) apart.1.0 in
       let three = at_none (i.giver, cash) q (pos i.cash) apart.1.1.0 in
@@ -149,14 +149,14 @@ module _ (i : Instruction) where
   pub net_is : IsNetOf (effect i) (net_of (i ∷ []))
   unfolding net_of
   net_is =
-      let ps = pairs_of_all (i ∷ []) in
+      let ps = all_changed_pairs (i ∷ []) in
       let sorted : IsStrictlySortedBy pair_cmp (keys_of (map (with_change alone) ps)) = subst (λ qs. IsStrictlySortedBy pair_cmp qs) (sym (keys_same alone ps)) pairs_rise in
       record {
         ordered = subst IsNet (sym (moves_same alone ps)) (moves_net (map (with_change alone) ps) sorted);
         deltas = λ pair. ap (λ ms. delta_of ms pair) (moves_same alone ps) ∙ moves_deltas (map (with_change alone) ps) pair sorted ∙ looked alone pair ps
-            ∙ ap (λ b. pick b (alone pair)) (keys_are pair) ∙ by pair (list_any (tied pair) (pairs_of i)) refl;
+            ∙ ap (λ b. pick b (alone pair)) (keys_are pair) ∙ by pair (list_any (tied pair) (changed_pairs i)) refl;
       }
     where
-      by : (pair : PairKey) (b : Bool) → list_any (tied pair) (pairs_of i) ≡ b → pick b (alone pair) ≡ effect i pair
+      by : (pair : PairKey) (b : Bool) → list_any (tied pair) (changed_pairs i) ≡ b → pick b (alone pair) ≡ effect i pair
       by pair true there = alone_is pair
       by pair false none = sym (effect_outside pair none)

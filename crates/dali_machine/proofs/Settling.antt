@@ -23,7 +23,7 @@ use Rattle.dali_queue.specs.Queue.{is_queued, item_of, without}
 use Rattle.dali_machine.specs.Machine.{Machine, StateRecord}
 use Rattle.dali_machine.specs.Kept.{AreKnown, IsMachine}
 use Rattle.dali_machine.specs.declared.outcome.Code.TheVariants.{Short, Late, Gone, Linked}
-use Rattle.dali_machine.specs.Refusals.{refusal, of_queued, is_late, is_short, lacks, pairs_of}
+use Rattle.dali_machine.specs.Refusals.{refusal, of_queued, is_late, is_short, lacks, changed_pairs}
 use Rattle.dali_machine.specs.Effects.{accepted, booked, with_queue, settled, net_for, net_of}
 use Rattle.dali_machine.specs.Ready.{MayTake, HasNetFor}
 use Rattle.dali_machine.proofs.Allowed.{none_first, none_after, is_true}
@@ -110,7 +110,7 @@ module _ (m : Machine) (kept : IsMachine m) (t : ℕ) (id : List ℕ) (i : Instr
 
   pub covered : All (λ (x : Move). pos 0 ≤ℤ (pos (units_of m.book.balances (pair_of x)) +ℤ x.delta)) (net_of (i ∷ []))
   covered =
-      let h = none_of (lacks m.book i) (pairs_of i) not_short in
+      let h = none_of (lacks m.book i) (changed_pairs i) not_short in
       net_all i (λ (x : Move). pos 0 ≤ℤ (pos (units_of m.book.balances (pair_of x)) +ℤ x.delta))
       (covers (i.giver, i.code) h.0, (covers (i.taker, i.code) h.1.0, (covers (i.giver, cash) h.1.1.0, (covers (i.taker, cash) h.1.1.1.0, tt))))
 

@@ -17,7 +17,7 @@ use Rattle.dali_queue.specs.Queue.{QueueRecord, entered, without, ranked, item_o
 use Rattle.dali_line.specs.declared.command.Verb.{Verb}
 use Rattle.dali_line.specs.declared.command.Verb.TheVariants.{Part, Inst, Issue, Draw, Dvp, Fop, Pay, Cancel, Settle, Cutoff, Cycle, Queue, Close, Stat, Ledger, Earmark, Release, Link, Rank}
 use Rattle.dali_machine.specs.Machine.{Machine}
-use Rattle.dali_machine.specs.Refusals.{pairs_of, worth}
+use Rattle.dali_machine.specs.Refusals.{changed_pairs, worth}
 
 -- the moves of these changes at these pairs, without those of 0
 abbrev pub moves_at : (PairKey → ℤ) → List PairKey → List Move
@@ -28,12 +28,12 @@ moves_at change (pair ∷ pairs) =
     else record { account = pair.0; asset = pair.1; delta = change pair } ∷ moves_at change pairs
 
 -- the pairs that these instructions may change, each once, in byte order of account, then of asset
-abbrev pub pairs_of_all : List Instruction → List PairKey
-pairs_of_all items = finite.keys (finite.from_entries {R = pair_cmp} (map (λ (pair : PairKey). (pair, tt {0})) (flat_map pairs_of items)))
+abbrev pub all_changed_pairs : List Instruction → List PairKey
+all_changed_pairs items = finite.keys (finite.from_entries {R = pair_cmp} (map (λ (pair : PairKey). (pair, tt {0})) (flat_map changed_pairs items)))
 
 -- the net of these instructions: all their effects at once
 unfoldable pub net_of : List Instruction → List Move
-net_of items = moves_at (λ pair. sum_over (λ i. effect i pair) items) (pairs_of_all items)
+net_of items = moves_at (λ pair. sum_over (λ i. effect i pair) items) (all_changed_pairs items)
 
 -- one move alone
 abbrev pub one_move : List ℕ → List ℕ → ℤ → List Move

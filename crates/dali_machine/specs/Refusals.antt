@@ -54,8 +54,8 @@ abbrev pub MOST_VALUE : ℕ
 MOST_VALUE = 1000000000000000
 
 -- the pairs that an instruction may change
-abbrev pub pairs_of : Instruction → List PairKey
-pairs_of i = (i.giver, i.code) ∷ (i.taker, i.code) ∷ (i.giver, cash) ∷ (i.taker, cash) ∷ []
+abbrev pub changed_pairs : Instruction → List PairKey
+changed_pairs i = (i.giver, i.code) ∷ (i.taker, i.code) ∷ (i.giver, cash) ∷ (i.taker, cash) ∷ []
 
 -- the instruction alone would leave the pair's balance negative
 abbrev pub lacks : BookRecord → Instruction → PairKey → Bool
@@ -63,7 +63,7 @@ lacks book i pair = is_negative (pos (units_of book.balances pair) +ℤ effect i
 
 -- the instruction alone would leave a line negative
 abbrev pub is_short : BookRecord → Instruction → Bool
-is_short book i = list_any (lacks book i) (pairs_of i)
+is_short book i = list_any (lacks book i) (changed_pairs i)
 
 abbrev pub not_queued : Machine → List ℕ → Bool
 not_queued m id = not (is_queued m.queue.waiting id)

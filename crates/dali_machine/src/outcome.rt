@@ -2,7 +2,8 @@ use dali_account::Pairs;
 use dali_ledger::Postings;
 use dali_statement::{Ids, WaitRows};
 
-/// Why a command was refused. What each says, and in which order they come, is defined in `specs/Refusals.antt`.
+/// Why a command was refused. `Form`, `Back` and `Closed`, and that they come before the others, are defined in
+/// `specs/Step.antt`; what each of the others says, and their order for each verb, in `specs/Refusals.antt`.
 #[derive(Clone, Copy, Debug, PartialEq, Eq)]
 pub enum Code {
     /// The line is no command of its edition.

@@ -11,7 +11,8 @@ use dali_base::Places;
 use dali_problem::Problem;
 
 impl Room {
-    /// Whether a feasible set with some one place outside it is feasible.
+    /// Whether some one place outside of a feasible set can be added so that the set stays feasible, as
+    /// `specs/Addable.antt` says.
     pub fn can_add_one(&mut self, problem: &Problem, set: &Places) -> bool
         requires room { IsRoomOf problem.now self.old }
         requires places { ArePlaces problem.now set.now }

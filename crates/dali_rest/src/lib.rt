@@ -1,8 +1,9 @@
 //! What can still be done with a feasible set of places: whether one place, or all that can be paid together, can be
 //! added, and whether a place can be exchanged for one of greater value.
 //!
-//! The promise to the crates above: each test answers exactly as `specs/` defines it, in a room that is made once for
-//! a problem. Places and lines are counted from 0, and values are in centavos.
+//! The promise to the crates above: each test of a feasible set answers exactly as `specs/Addable.antt` and
+//! `specs/Swappable.antt` define it, in a room that is made once for a problem. Places and lines are counted from 0, and
+//! values are in centavos.
 #![tactic(auto)]
 
 mod add;

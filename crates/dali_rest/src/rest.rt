@@ -14,7 +14,8 @@ use dali_base::Places;
 use dali_problem::Problem;
 
 impl Room {
-    /// Whether the rest of the members outside a feasible set isn't empty, and the set with all of it is feasible.
+    /// Whether the rest of the members outside of a feasible set isn't empty, and the set stays feasible with all of it, as
+    /// `specs/Addable.antt` says.
     pub fn can_add_rest(&mut self, problem: &Problem, set: &Places, members: &Places) -> bool
         requires room { IsRoomOf problem.now self.old }
         requires places { ArePlaces problem.now set.now }
@@ -27,7 +28,7 @@ impl Room {
         self.choose_rest(problem) && self.is_covered(problem)
     }
 
-    /// Finds the rest of the members outside a feasible set: the greatest list of them that can be paid with its own
+    /// Finds the rest of the members outside of a feasible set: the greatest list of them that can be paid with its own
     /// credits. `is_in_rest` then tells its places.
     pub fn find_rest(&mut self, problem: &Problem, set: &Places, members: &Places)
         requires room { IsRoomOf problem.now self.old }

@@ -28,7 +28,7 @@ impl Model for Room {
 }
 
 impl Room {
-    /// Room for tests on this problem.
+    /// Room for tests on sets of places of this problem, or want of memory.
     pub fn new(alloc: Global, problem: &Problem) -> Result<Room, OutOfMemory>
         ensures { IfOk result (λ room. IsRoomOf problem.now room) }
     {

@@ -12,8 +12,8 @@ use dali_base::Places;
 use dali_problem::Problem;
 
 impl Room {
-    /// Whether a member of a feasible set can be exchanged for a member outside it of greater value so that the set
-    /// stays feasible.
+    /// Whether some member in a feasible set can be exchanged for a member outside of it of greater value so that the set
+    /// stays feasible, as `specs/Swappable.antt` says.
     pub fn can_swap(&mut self, problem: &Problem, set: &Places, members: &Places) -> bool
         requires room { IsRoomOf problem.now self.old }
         requires places { ArePlaces problem.now set.now }

@@ -18,8 +18,10 @@ use dali_statement::{held, waiting};
 use std::alloc::Global;
 
 impl State {
-    /// Judges the line in this edition, and takes all memory that its command needs. The state stays as it was but for
-    /// spare room, at want of memory too. Fewer than 2^63 commands were taken before.
+    /// Judges the line in this edition as `specs/Step.antt` defines, and takes all memory that its command needs. What is
+    /// returned has the judgement, the answer and the command's number, and `commit` may take it. A line is no command
+    /// in edition 0 and in those above 4, and so refused with FORM. The state stays as it was but for spare room, at want
+    /// of memory too, which is the only error. Fewer than 2^63 commands were taken before.
     pub fn prepare(&mut self, edition: u8, line: &Line) -> Result<Ready, OutOfMemory>
         requires few { self.old.machine.commands < 2 ^ 63 }
         ensures machine { self.new.machine ≡ self.old.machine }
