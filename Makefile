@@ -1,18 +1,32 @@
 # Thin: each target is a line or two.
 DAY ?= examples/first.day
+CRATES ?=
 
-.PHONY: demo build test try bench
+.PHONY: demo build test quick edits outside try bench
 
-# Proves and builds the program, and runs the first day through it.
-demo: build
-	crates/dali/out/dali day J < examples/first.day
+# Shows a gridlock freed within two minutes: by the built program, or by the same sources before their proof.
+demo:
+	tools/demo
 
+# Proves the program's crates, and builds it.
 build:
-	cd crates/dali && rt run -- day J < /dev/null
+	tools/build
 
 # The gate: every proof, must-fail edit, test and stored run.
 test:
 	rt ci
+
+# Every crate's tests, or those of CRATES, before any proof.
+quick:
+	tools/quick $(CRATES)
+
+# What the built program does at the edge of the machine.
+outside: build
+	tests/outside/run
+
+# The wrong bodies that stand outside the gate, in a copy: make edits CRATES="dali_base dali_line"
+edits:
+	tools/edits $(CRATES)
 
 # Runs the program on a file before any proof: make try DAY=FILE
 try:

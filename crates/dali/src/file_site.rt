@@ -1,95 +1,40 @@
-ghost use Rattle.std.specs.Prelude.{false, [], ◌≡◌};
+ghost use Rattle.std.specs.Prelude.{◌≡◌, ◌+◌, ◌≤◌, false, [], length, is_ok, IsErr, OnErr, None};
+ghost use Rattle.dali_outside.specs.Outside.{Rose};
+ghost use Rattle.dali.specs.Calls.{Asks, Makes, read_at, write_at, sync as sync_call, print, count_after};
 
+use crate::ports::{Device, Output};
 use dali_outside::{Failed, Site};
-use std::fs::{File, Files, OpenOptions};
-use std::io::{Stdout, Write};
-use std::os::fd::AsRawFd;
-use std::os::unix::fs::FileExt;
 
-/// A journal's file and standard output. It tells nothing of their content, and counts its failures. Where there is
-/// no file, every call of the disk fails.
+/// A journal's file and standard output as a site. It tells nothing of their content, and counts its failures. Where
+/// there is no file, every call of the disk fails.
 #[derive(Drop)]
-pub struct FileSite {
-    file: Option<File>,
+pub struct FileSite<D, O> {
+    file: Option<D>,
     size: u64,
-    stdout: Stdout,
+    output: O,
     disk_faults: u64,
     print_faults: u64,
 }
 
-impl FileSite {
-    /// Over this file of this many bytes.
-    fn over(file: Option<File>, size: u64, stdout: Stdout) -> FileSite
-        ensures { result.size ≡ size }
+impl<D, O> FileSite<D, O> {
+    /// Over this file of so many bytes, where there is one, and this output, with no failure counted.
+    pub fn new(file: Option<D>, size: u64, output: O) -> FileSite<D, O>
+        ensures file { result.file ≡ file }
+        ensures size { result.size ≡ size }
+        ensures output { result.output ≡ output }
+        ensures none { (result.disk_faults ≡ 0) × (result.print_faults ≡ 0) }
     {
         FileSite {
             file,
             size,
-            stdout,
+            output,
             disk_faults: 0,
             print_faults: 0,
         }
     }
-
-    /// Without a file.
-    pub fn without_file(stdout: Stdout) -> FileSite
-        ensures { result.size ≡ 0 }
-    {
-        FileSite::over(None, 0, stdout)
-    }
-
-    /// Over the file of this path as it stands. Without a file where it can't be opened.
-    pub fn open(files: &impl Files<File = File>, path: &str, stdout: Stdout) -> FileSite {
-        match opened(files, path) {
-            Some((file, size)) => FileSite::over(Some(file), size, stdout),
-            None => FileSite::without_file(stdout),
-        }
-    }
-
-    /// Over a new file of this many bytes. Without a file where the path is there already, or can't be made.
-    pub fn create(
-        files: &impl Files<File = File>,
-        path: &str,
-        size: u64,
-        stdout: Stdout,
-    ) -> FileSite
-        ensures { result.size ≡ size }
-    {
-        FileSite::over(created(files, path, size), size, stdout)
-    }
 }
 
-/// The file of this path, and its size.
-fn opened(files: &impl Files<File = File>, path: &str) -> Option<(File, u64)> {
-    let mut how = OpenOptions::new();
-    how.read(true).write(true);
-    let file = how.open(files, path).ok()?;
-    if !is_apart(&file) {
-        return None;
-    }
-    let size = file.metadata().ok()?.len();
-    Some((file, size))
-}
-
-/// A new file of this path with so many bytes.
-fn created(files: &impl Files<File = File>, path: &str, size: u64) -> Option<File> {
-    let mut how = OpenOptions::new();
-    how.read(true).write(true).create_new(true);
-    let file = how.open(files, path).ok()?;
-    if !is_apart(&file) {
-        return None;
-    }
-    file.set_len(size).ok()?;
-    Some(file)
-}
-
-/// Whether the file isn't one of the three standard streams. Where a stream was closed before the start, a file that is
-/// opened gets its number, and what is printed would go into the journal.
-fn is_apart(file: &File) -> bool {
-    file.as_raw_fd() > 2
-}
-
-impl Site for FileSite {
+impl<D: Device + Drop, O: Output + Drop> Site for FileSite<D, O> {
     ghost tells = { false };
 
     ghost sight = { λ s. record {
@@ -107,41 +52,71 @@ impl Site for FileSite {
         self.size
     }
 
-    fn read(&mut self, at: u64, into: &mut [u8]) -> Result<(), Failed> {
-        if let Some(file) = &self.file {
-            if file.read_exact_at(into, at).is_ok() {
-                return Ok(());
-            }
+    /// Makes one read of the file, and fails exactly where it fails.
+    fn read(&mut self, at: u64, into: &mut [u8]) -> Result<(), Failed>
+        ensures call { Asks D.calls self.old.file self.new.file (read_at at into.new (is_ok result)) }
+        ensures absent { self.old.file ≡ None → IsErr result }
+        ensures goes { (self.old.disk_faults ≤ self.new.disk_faults) × (self.old.print_faults ≤ self.new.print_faults) }
+        ensures counted { self.new.disk_faults ≡ count_after (is_ok result) self.old.disk_faults }
+        ensures rest { (self.new.size ≡ self.old.size) × (self.new.output ≡ self.old.output) × (self.new.print_faults ≡ self.old.print_faults) }
+    {
+        let answer = match &mut self.file {
+            Some(file) => file.read(at, into),
+            None => Err(Failed),
+        };
+        if answer.is_err() {
+            self.disk_faults = self.disk_faults.saturating_add(1);
         }
-        self.disk_faults = self.disk_faults.saturating_add(1);
-        Err(Failed)
+        answer
     }
 
-    fn write(&mut self, at: u64, piece: &[u8]) -> Result<(), Failed> {
-        if let Some(file) = &self.file {
-            if file.write_all_at(piece, at).is_ok() {
-                return Ok(());
-            }
+    /// Makes one write to the file, and fails exactly where it fails.
+    fn write(&mut self, at: u64, piece: &[u8]) -> Result<(), Failed>
+        ensures call { Asks D.calls self.old.file self.new.file (write_at at piece.now (is_ok result)) }
+        ensures absent { self.old.file ≡ None → IsErr result }
+        ensures goes { (self.old.disk_faults ≤ self.new.disk_faults) × (self.old.print_faults ≤ self.new.print_faults) }
+        ensures counted { self.new.disk_faults ≡ count_after (is_ok result) self.old.disk_faults }
+        ensures rest { (self.new.size ≡ self.old.size) × (self.new.output ≡ self.old.output) × (self.new.print_faults ≡ self.old.print_faults) }
+    {
+        let answer = match &mut self.file {
+            Some(file) => file.write(at, piece),
+            None => Err(Failed),
+        };
+        if answer.is_err() {
+            self.disk_faults = self.disk_faults.saturating_add(1);
         }
-        self.disk_faults = self.disk_faults.saturating_add(1);
-        Err(Failed)
+        answer
     }
 
-    fn sync(&mut self) -> Result<(), Failed> {
-        if let Some(file) = &self.file {
-            if file.sync_data().is_ok() {
-                return Ok(());
-            }
+    /// Makes one sync of the file, and fails exactly where it fails.
+    fn sync(&mut self) -> Result<(), Failed>
+        ensures call { Asks D.calls self.old.file self.new.file (sync_call (is_ok result)) }
+        ensures absent { self.old.file ≡ None → IsErr result }
+        ensures goes { (self.old.disk_faults ≤ self.new.disk_faults) × (self.old.print_faults ≤ self.new.print_faults) }
+        ensures counted { self.new.disk_faults ≡ count_after (is_ok result) self.old.disk_faults }
+        ensures rest { (self.new.size ≡ self.old.size) × (self.new.output ≡ self.old.output) × (self.new.print_faults ≡ self.old.print_faults) }
+    {
+        let answer = match &mut self.file {
+            Some(file) => file.sync(),
+            None => Err(Failed),
+        };
+        if answer.is_err() {
+            self.disk_faults = self.disk_faults.saturating_add(1);
         }
-        self.disk_faults = self.disk_faults.saturating_add(1);
-        Err(Failed)
+        answer
     }
 
-    fn put(&mut self, piece: &[u8]) -> Result<(), Failed> {
-        if self.stdout.write_all(piece).is_ok() {
-            return Ok(());
+    /// Prints the piece by one call of the output, and fails exactly where it fails.
+    fn put(&mut self, piece: &[u8]) -> Result<(), Failed>
+        ensures call { Makes (O.calls self.old.output) (O.calls self.new.output) (print piece.now (is_ok result)) }
+        ensures goes { (self.old.disk_faults ≤ self.new.disk_faults) × (self.old.print_faults ≤ self.new.print_faults) }
+        ensures counted { self.new.print_faults ≡ count_after (is_ok result) self.old.print_faults }
+        ensures rest { (self.new.size ≡ self.old.size) × (self.new.file ≡ self.old.file) × (self.new.disk_faults ≡ self.old.disk_faults) }
+    {
+        let answer = self.output.print(piece);
+        if answer.is_err() {
+            self.print_faults = self.print_faults.saturating_add(1);
         }
-        self.print_faults = self.print_faults.saturating_add(1);
-        Err(Failed)
+        answer
     }
 }

@@ -1,20 +1,33 @@
 //! The program `dali`: the words of the command line, the journal's file and the machine's streams, handed to
 //! `dali_desk::run`.
+//!
+//! The source and the site are written over three traits (`ports.rt`) whose calls can be told, so their contracts say
+//! that each makes exactly the call that it names and answers as that answered. Trusted are `machine.rt`, where the
+//! machine's own streams and file stand behind these traits, `opening.rt`, and that `main` hands over the words and ends
+//! with the number.
 #![tactic(auto)]
 
 ghost use Rattle.std.specs.Prelude.{◌≡◌, ℕ};
 ghost use Rattle.dali_desk.specs.Words.{IsJob};
 
+mod ending;
 mod file_site;
+mod machine;
+mod opening;
+mod ports;
 mod stdin_source;
+mod streams;
 #[cfg(test)]
 mod tests;
 mod words;
 
 use dali_base::Words;
-use dali_desk::{Job, Status, exit_number, plan, run, status_line};
+use dali_desk::{Job, Status, plan, run};
+use ending::end;
 use file_site::FileSite;
-use std::io::Write;
+use opening::{create_file, open_file};
+use std::fs::File;
+use std::io::Stdout;
 use std::process::ExitCode;
 use stdin_source::StdinSource;
 
@@ -28,28 +41,25 @@ fn main(rt: HostRuntime) -> ExitCode {
         }
         Err(_) => Status::OutOfMemory,
     };
-    let mut line = [0; 160];
-    let len = status_line(&status, &mut line);
-    if len > 0 {
-        let mut stderr = rt.stderr();
-        let _ = stderr.write_all(&line[..len]);
-        let _ = stderr.write_all(b"\n");
-    }
-    ExitCode::from(exit_number(&status))
+    end(&status, &mut rt.stderr())
 }
 
-/// The site of these words: the file that the second one names, and standard output. Only `init` makes a file.
-fn site_of(rt: &HostRuntime, words: &Words) -> FileSite
+/// The site of these words: the file that the second one names, and standard output. Only `init` makes a file. Where the
+/// file can't be had, the site has none.
+fn site_of(rt: &HostRuntime, words: &Words) -> FileSite<File, Stdout>
     ensures { (size : ℕ) → IsJob words.now (Job.Init size) → result.size ≡ size }
 {
-    let stdout = rt.stdout();
     let path = match words.get(1) {
         Some(word) => std::str::from_utf8(word.bytes()).unwrap_or(""),
         None => "",
     };
+    let stdout = rt.stdout();
     match plan(words) {
-        Ok(Job::Init { size }) => FileSite::create(rt, path, size, stdout),
-        Ok(Job::Day) => FileSite::open(rt, path, stdout),
-        Err(_) => FileSite::without_file(stdout),
+        Ok(Job::Init { size }) => FileSite::new(create_file(rt, path, size), size, stdout),
+        Ok(Job::Day) => match open_file(rt, path) {
+            Some((file, size)) => FileSite::new(Some(file), size, stdout),
+            None => FileSite::new(None, 0, stdout),
+        },
+        Err(_) => FileSite::new(None, 0, stdout),
     }
 }

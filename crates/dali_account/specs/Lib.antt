@@ -1,3 +1,4 @@
+pub mod Limits
 pub mod Units
 pub mod Holding
 pub mod Book

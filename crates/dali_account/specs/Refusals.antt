@@ -1,33 +1,35 @@
 use Rattle.std.specs.Prelude.{◌≡◌, ℕ, ◌+◌, not, List, length, Option, Some, None, Result, Ok, Err, nat_lt, nat_le, if◌then◌else◌}
+use Rattle.dali_base.specs.Limits.{most_total}
 use Rattle.dali_account.specs.declared.refusal.BookNo.{BookNo}
 use Rattle.dali_account.specs.declared.refusal.BookNo.TheVariants.{There, Full, Name, Total, Short, OutOfMemory}
+use Rattle.dali_account.specs.Limits.{most_accounts, most_codes}
 use Rattle.dali_account.specs.Book.{BookRecord, has_account, has_asset, knows_pair, balance_of, earmark_of, total_of}
 
--- the most accounts, and the most codes
+-- the most accounts, which are as many as the most codes
 abbrev pub MOST : ℕ
-MOST = 1000
+MOST = most_accounts
 
 -- the most units of an asset
 abbrev pub LIMIT : ℕ
-LIMIT = 1000000000000000000
+LIMIT = most_total
 
 -- each call's refusal, the first of its list that holds
 abbrev pub account_refusal : BookRecord → List ℕ → Option BookNo
 account_refusal b account =
     if has_account b.accounts account then Some There
-    else if nat_le MOST (length b.accounts) then Some Full
+    else if nat_le most_accounts (length b.accounts) then Some Full
     else None
 
 abbrev pub asset_refusal : BookRecord → List ℕ → Option BookNo
 asset_refusal b code =
     if has_asset b.codes code then Some There
-    else if nat_le MOST (length b.codes) then Some Full
+    else if nat_le most_codes (length b.codes) then Some Full
     else None
 
 abbrev pub issue_refusal : BookRecord → List ℕ → List ℕ → ℕ → Option BookNo
 issue_refusal b account asset n =
     if not (knows_pair b account asset) then Some Name
-    else if nat_lt LIMIT (total_of b asset + n) then Some Total
+    else if nat_lt most_total (total_of b asset + n) then Some Total
     else None
 
 -- of draw and earmark

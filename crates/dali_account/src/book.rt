@@ -1,7 +1,9 @@
 ghost use Rattle.std.specs.Prelude.{◌≡◌, ◌≢◌, ◌≤◌, ℕ, List, ◌++◌, [], ◌∷◌, Some, None, Err, length, OnOk, OnErr};
 ghost use Rattle.std.specs.FinMap as map;
+ghost use Rattle.dali_base.specs.Limits.{most_price, most_total};
+ghost use Rattle.dali_account.specs.Limits.{most_accounts, most_codes};
 ghost use Rattle.dali_account.specs.Book.{cash, has_account, has_asset, price_of, balance_of, earmark_of, total_of};
-ghost use Rattle.dali_account.specs.Refusals.{MOST, LIMIT, Answers, account_refusal, asset_refusal};
+ghost use Rattle.dali_account.specs.Refusals.{Answers, account_refusal, asset_refusal};
 
 mod pairs;
 mod post;
@@ -9,16 +11,11 @@ mod units;
 
 use crate::assets::Assets;
 use crate::holdings::Holdings;
+use crate::limits::{MOST_ACCOUNTS, MOST_CODES};
 use crate::refusal::BookNo;
 use dali_base::{Name, Names, OutOfMemory};
 use std::alloc::Global;
 use std::marker::Model;
-
-/// The most accounts, and the most codes without `MXN`.
-const MOST_NAMES: u32 = 1000;
-
-/// The most units of an asset.
-const MOST_UNITS: u64 = 1_000_000_000_000_000_000;
 
 /// A book: accounts, codes with their prices, and the balances and earmarks of pairs of an account and an asset.
 /// Contracts see it as two lists and two finite maps (`specs/Book.antt`), and beside them for how many new pairs
@@ -91,7 +88,7 @@ impl Book {
     pub fn balance(&self, account: Name, asset: Name) -> u64
         ensures balance { result ≡ balance_of self.now.book account asset }
         ensures within { result ≤ total_of self.now.book asset }
-        ensures limit { total_of self.now.book asset ≤ LIMIT }
+        ensures limit { total_of self.now.book asset ≤ most_total }
     {
         self.balances.units(account, asset)
     }
@@ -100,7 +97,7 @@ impl Book {
     pub fn earmarked(&self, account: Name, asset: Name) -> u64
         ensures earmark { result ≡ earmark_of self.now.book account asset }
         ensures within { result ≤ total_of self.now.book asset }
-        ensures limit { total_of self.now.book asset ≤ LIMIT }
+        ensures limit { total_of self.now.book asset ≤ most_total }
     {
         self.earmarks.units(account, asset)
     }
@@ -108,7 +105,7 @@ impl Book {
     /// The total of an asset: its balances and earmarks over all accounts. At most 10^18.
     pub fn total(&self, asset: Name) -> u64
         ensures total { result ≡ total_of self.now.book asset }
-        ensures limit { result ≤ LIMIT }
+        ensures limit { result ≤ most_total }
     {
         self.assets.total(asset)
     }
@@ -116,7 +113,7 @@ impl Book {
     /// The number of accounts, at most 1,000.
     pub fn accounts(&self) -> u32
         ensures count { result ≡ length self.now.book.accounts }
-        ensures most { result ≤ MOST }
+        ensures most { result ≤ most_accounts }
     {
         self.accounts.len()
     }
@@ -124,7 +121,7 @@ impl Book {
     /// The number of codes, without `MXN`, at most 1,000.
     pub fn assets(&self) -> u32
         ensures count { result ≡ length self.now.book.codes }
-        ensures most { result ≤ MOST }
+        ensures most { result ≤ most_codes }
         ensures cash { price_of self.now.book.codes cash ≡ None }
     {
         self.assets.len() as u32
@@ -146,7 +143,7 @@ impl Book {
         if self.accounts.place(account).is_some() {
             return Err(BookNo::There);
         }
-        if self.accounts.len() >= MOST_NAMES {
+        if self.accounts.len() >= MOST_ACCOUNTS {
             return Err(BookNo::Full);
         }
         match self.accounts.add(account) {
@@ -161,7 +158,7 @@ impl Book {
     /// Where the code is the readied one, memory isn't wanted.
     pub fn add_asset(&mut self, code: Name, price: u64) -> Result<(), BookNo>
         requires from_one { 1 ≤ price }
-        requires to_limit { price ≤ 1000000000 }
+        requires to_limit { price ≤ most_price }
         ensures refusal { Answers (asset_refusal self.old.book code) result }
         ensures ok { OnOk result (self.new.book ≡ record self.old.book { codes = self.old.book.codes ++ (code, price) ∷ [] }) }
         ensures totals { (asset : List ℕ) → total_of self.new.book asset ≡ total_of self.old.book asset }
@@ -174,7 +171,7 @@ impl Book {
         if self.assets.has(code) {
             return Err(BookNo::There);
         }
-        if self.assets.len() >= MOST_NAMES as usize {
+        if self.assets.len() >= MOST_CODES as usize {
             return Err(BookNo::Full);
         }
         match self.assets.add(code, price) {

@@ -8,6 +8,7 @@
 mod assets;
 mod book;
 mod holdings;
+pub mod limits;
 mod net;
 mod pairs;
 mod refusal;

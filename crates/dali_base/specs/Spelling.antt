@@ -1,5 +1,6 @@
 use Rattle.std.specs.Prelude.{◌≡◌, ℕ, ◌+◌, ◌*◌, ◌/◌, ◌%◌, ◌≤◌, ◌<◌, Bool, List, [], ◌∷◌, ◌++◌, length, decimal, nat_le, ◌&&◌, ◌||◌}
 use Rattle.std.specs.List.{list_all}
+use Rattle.dali_base.specs.Limits.{most_name}
 
 -- A to Z or 0 to 9
 abbrev pub is_name_byte : ℕ → Bool
@@ -7,7 +8,7 @@ is_name_byte b = (nat_le 65 b && nat_le b 90) || (nat_le 48 b && nat_le b 57)
 
 -- a name (account, code, id): 1 to 12 such bytes
 abbrev pub is_name : List ℕ → Bool
-is_name bytes = nat_le 1 (length bytes) && nat_le (length bytes) 12 && list_all is_name_byte bytes
+is_name bytes = nat_le 1 (length bytes) && nat_le (length bytes) most_name && list_all is_name_byte bytes
 
 -- these bytes spell the number n, which is at most max: decimal, without a sign or a leading zero
 pub record IsNumber (max : ℕ) (bytes : List ℕ) (n : ℕ) : Type 0 where

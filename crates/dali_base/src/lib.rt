@@ -1,10 +1,11 @@
 //! Names, moments, numbers and the small lists that every crate above uses.
 //!
 //! The promise to the crates above: a reader gives a value exactly for its one spelling, and a list is seen by
-//! contracts as a plain list. The spellings stand in `specs/Spelling.antt`.
+//! contracts as a plain list. The spellings stand in `specs/Spelling.antt`, the limits in `specs/Limits.antt`.
 #![tactic(auto)]
 
 mod kind;
+pub mod limits;
 mod memory;
 mod moment;
 mod name;
@@ -24,5 +25,5 @@ pub use number::read_number;
 pub use seq::Seq;
 pub use text::{Places, Text, Words};
 
-/// The greatest edition of the day file's grammar.
+/// The newest edition of the day file's grammar, counted from 1. `limits::hold` says that it is the one of `specs/Limits.antt`.
 pub const NEWEST: u8 = 4;

@@ -10,17 +10,15 @@ ghost use Rattle.std.specs.List.{list_all};
 ghost use Rattle.dali_base.specs.Spelling.{is_name, is_name_byte as is_in_name};
 ghost use Rattle.dali_base.specs.Readers.{spelled_name};
 
+use crate::limits::MOST_NAME;
 use std::cmp::Ordering;
 use std::hash::{Hash, Hasher};
 use std::marker::Model;
 
-/// The most bytes of a name.
-const MOST: usize = 12;
-
 /// The name of an account, an asset or an instruction: 1 to 12 bytes of A-Z and 0-9, ordered by its bytes.
 #[derive(Clone, Copy, Debug)]
 pub struct Name {
-    bytes: [u8; 12],
+    bytes: [u8; MOST_NAME],
     len: u8,
 }
 
@@ -107,7 +105,7 @@ pub fn read_name(bytes: &[u8]) -> Option<Name>
     if !is_name_text(bytes) {
         return None;
     }
-    let mut stored = [0; MOST];
+    let mut stored = [0; MOST_NAME];
     stored[..bytes.len()].copy_from_slice(bytes);
     Some(Name {
         bytes: stored,
@@ -118,7 +116,7 @@ pub fn read_name(bytes: &[u8]) -> Option<Name>
 fn is_name_text(bytes: &[u8]) -> bool
     ensures { result ≡ is_name bytes.now }
 {
-    1 <= bytes.len() && bytes.len() <= MOST && are_name_bytes(bytes)
+    1 <= bytes.len() && bytes.len() <= MOST_NAME && are_name_bytes(bytes)
 }
 
 fn are_name_bytes(bytes: &[u8]) -> bool

@@ -17,3 +17,7 @@ pub mod Reasons
 pub mod Firsts
 pub mod Counting
 pub mod Ceiling
+pub mod Granted
+pub mod Certified
+pub mod Bests
+pub mod Scales

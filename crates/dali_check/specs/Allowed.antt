@@ -1,5 +1,5 @@
 use Rattle.std.specs.Prelude.{◌≡◌, ◌≢◌, ℕ, ◌+◌, ◌^◌, ◌<◌, ◌≤◌, Bool, true, false, ◌⊎◌, List, length, slice_index_or}
-use Rattle.std.specs.List.{Any}
+use Rattle.std.specs.List.{All, Any}
 use Rattle.dali_problem.specs.Clearing.{Clearing}
 use Rattle.dali_problem.specs.Feasible.{IsFeasible, value_of}
 use Rattle.dali_tree.specs.declared.choice.Part.{Part}
@@ -65,3 +65,17 @@ pub record IsWhole (p : Clearing) (choice : Choice) : Type 0 where
   pub partition : ArePartition (length p.items) choice.parts
   pub separate : AreSeparate p choice.parts
   pub feasible : IsFeasible p choice.places
+
+-- What an allowed choice is, each thing said of itself: the parts are a partition that shares no line, and the set is
+-- feasible; nothing can be added to the set, alone or as the rest of a part, and no member exchanged for a better one; each
+-- part is proved and lean; and the branchings are within the budget. Where the bounds are above the value of the set, the
+-- budget is spent to the last branching, and isn't enough for every set of places.
+pub record IsCertified (p : Clearing) (budget : ℕ) (choice : Choice) : Type 0 where
+  pub whole : IsWhole p choice
+  pub none_more : ¬ (CanAddOne p choice.places)
+  pub no_rest : All (λ (part : Part). ¬ (CanAddRest p choice.places part.members)) choice.parts
+  pub no_better : All (λ (part : Part). ¬ (CanSwap p choice.places part.members)) choice.parts
+  pub proved : All (λ (part : Part). proves_part p part ≡ true) choice.parts
+  pub lean : All (λ (part : Part). lean_part p part (value_in_part p choice.places part) ≡ true) choice.parts
+  pub within : branchings_of choice.parts ≤ budget
+  pub spent : value_of p choice.places < bound_of choice.parts → (branchings_of choice.parts ≡ budget) × (budget + 1 < 2 ^ length p.items)

@@ -1,5 +1,6 @@
 ghost use Rattle.std.specs.Prelude.{◌≡◌, ℕ, ◌<◌, ◌≤◌, ◌^◌, ◌↔◌, ◌⊎◌, true, false, List, length, slice_index_or, sum_by, IsTrue, IfSome, IfNone, OnOk, IfErr};
 ghost use Rattle.std.specs.List.{All, Any, filter};
+ghost use Rattle.dali_base.specs.Limits.{most_items};
 ghost use Rattle.dali_problem.specs.declared.mark.Mark.TheVariants.{Left};
 ghost use Rattle.dali_problem.specs.Kept.{IsOf};
 ghost use Rattle.dali_problem.specs.Feasible.{ArePlaces, IsFeasible, value_of};
@@ -7,7 +8,7 @@ ghost use Rattle.dali_tree.specs.Range.{IsPartInRange, IsInRange};
 ghost use Rattle.dali_rest.specs.Addable.{CanAddOne, CanAddRest};
 ghost use Rattle.dali_rest.specs.Swappable.{CanSwap};
 ghost use Rattle.dali_rest.specs.Room.{IsRoomOf};
-ghost use Rattle.dali_check.specs.Allowed.{FirstFails, IsIdle, Passed, IsReason, Allowed, IsWhole};
+ghost use Rattle.dali_check.specs.Allowed.{FirstFails, IsIdle, Passed, IsReason, Allowed, IsWhole, IsCertified};
 ghost use Rattle.dali_check.specs.Best.{Best};
 ghost use Rattle.dali_check.specs.Lean.{lean_part};
 ghost use Rattle.dali_check.specs.Parts.{bound_of, value_in_part};
@@ -30,7 +31,7 @@ use dali_tree::{Choice, Part};
 /// Whether a choice is allowed for this budget of branchings, and else the first reason why not, by `Allowed` and
 /// `IsReason` of `specs/Allowed.antt`. Takes no memory.
 ///
-/// Where it is, no feasible set is worth more than the sum of the bounds, in centavos, so a set that is worth that sum
+/// Where it is, `IsCertified` there says each thing of it. No feasible set is worth more than the sum of the bounds, in centavos, so a set that is worth that sum
 /// is best. That sum is at most the values of all items, so it fits in a `u64`.
 pub fn allowed(
     problem: &Problem,
@@ -42,9 +43,12 @@ pub fn allowed(
     requires in_range { IsInRange (length problem.now.items) (length problem.now.lines) choice.now }
     ensures ok { OnOk result (Allowed problem.now budget choice.now) }
     ensures err { IfErr result (λ reason. IsReason problem.now budget choice.now reason) }
+    ensures certified { OnOk result (IsCertified problem.now budget choice.now) }
+
     ensures bound { OnOk result ((t : List ℕ) → ArePlaces problem.now t → IsFeasible problem.now t → value_of problem.now t ≤ bound_of choice.now.parts) }
     ensures small { OnOk result (bound_of choice.now.parts ≤ sum_by (λ item. item.value) problem.now.items) }
     ensures best { OnOk result (value_of problem.now choice.now.places ≡ bound_of choice.now.parts → Best problem.now choice.now.places) }
+
     ensures made { IsFor problem.now scratch.new }
 {
     let _items = problem.items();
@@ -164,7 +168,7 @@ fn check_parts(problem: &Problem, choice: &Choice, scratch: &mut Scratch) -> Res
 fn first_unproved(problem: &Problem, parts: &[Part], scratch: &mut Scratch) -> Option<u32>
     requires made { IsFor problem.now scratch.old }
     requires in_range { All (IsPartInRange (length problem.now.items) (length problem.now.lines)) parts.now }
-    requires few { length parts.now ≤ 1024 }
+    requires few { length parts.now ≤ most_items }
     ensures some { IfSome result (λ k. FirstFails (proves_part problem.now) parts.now k) }
     ensures none { IfNone result (All (λ part. proves_part problem.now part ≡ true) parts.now) }
     ensures made { IsFor problem.now scratch.new }
@@ -187,7 +191,7 @@ fn first_not_lean(
     requires made { IsFor problem.now scratch.old }
     requires set { ArePlaces problem.now set.now }
     requires in_range { All (IsPartInRange (length problem.now.items) (length problem.now.lines)) parts.now }
-    requires few { length parts.now ≤ 1024 }
+    requires few { length parts.now ≤ most_items }
     ensures some { IfSome result (λ k. FirstFails (λ part. lean_part problem.now part (value_in_part problem.now set.now part)) parts.now k) }
     ensures none { IfNone result (All (λ part. lean_part problem.now part (value_in_part problem.now set.now part) ≡ true) parts.now) }
     ensures made { IsFor problem.now scratch.new }
@@ -234,7 +238,7 @@ fn first_not_lean_marked(
     requires ready { IsReady problem.now kept.old }
     requires marks { length marks.now ≡ length problem.now.items }
     requires in_range { All (IsPartInRange (length problem.now.items) (length problem.now.lines)) parts.now }
-    requires few { length parts.now ≤ 1024 }
+    requires few { length parts.now ≤ most_items }
     ensures some { IfSome result (λ k. FirstFails (λ part. lean_part problem.now part
         (value_of problem.now (filter (λ j. slice_index_or marks.now j false) part.members))) parts.now k) }
     ensures none { IfNone result (All (λ part. lean_part problem.now part

@@ -9,6 +9,7 @@
 
 mod allowing;
 mod apart;
+pub mod laws;
 mod leaning;
 mod members;
 mod proving;

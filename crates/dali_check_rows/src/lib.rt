@@ -1,5 +1,5 @@
-//! Worked rows of the certificate checker: its answers on small problems and choices that were worked out by hand, and
-//! a comparison with the plain slow program. There is nothing but tests here.
+//! Worked rows of the certificate checker and of the search: answers on small problems and choices that were worked out
+//! by hand, and a comparison with the plain slow program. There is nothing but tests here.
 #![tactic(auto)]
 
 #[cfg(test)]
@@ -20,3 +20,5 @@ mod plain;
 mod problems;
 #[cfg(test)]
 mod rows;
+#[cfg(test)]
+mod searched;

@@ -1,19 +1,19 @@
 use Rattle.std.proofs.Common.{◌≡◌, ◌∙◌, ℕ, zero, suc, ◌+◌, ◌-◌, ◌≤◌, ◌<◌, ◌⊎◌, inl, inr, Bool, true, false, List, [], ◌∷◌, ◌++◌, length, drop, map, refl, sym, ap, subst, arith, append_assoc, append-nil, length-append}
 use Rattle.std.specs.Prelude.{IsTrue, slice_index_or, Option, Some, None}
 use Rattle.std.specs.List.{All, AllPairs, AllByRecursion}
-use Rattle.std.proofs.lemmas.List.{map-append, length-map, get_or-map}
-use Rattle.std.proofs.lemmas.List.Elements.{All-map, All-push, recursion_from_All}
+use Rattle.std.proofs.lemmas.List.{map-append}
+use Rattle.std.proofs.lemmas.List.Elements.{All-head, All-tail, recursion_from_All}
 use Rattle.dali_outside.specs.Outside.{Feed, Sight, Rose, Goes, SameDisk}
 use Rattle.dali_outside.specs.Stops.{LeavesOnly}
-use Rattle.dali_line.specs.Line.{MOST_OF_COMMAND, is_line}
+use Rattle.dali_line.specs.Line.{MOST_OF_COMMAND}
 use Rattle.dali_line.specs.Commands.{commands}
 use Rattle.dali_line.specs.Lines.{FirstIsLong, MOST_OF_FILE}
 use Rattle.dali_machine.specs.Machine.{Machine, opening}
-use Rattle.dali_machine.specs.Step.{step}
-use Rattle.dali_machine.specs.History.{EntryRecord, IsEntry, IsLegal, state_after, state_of}
+use Rattle.dali_machine.specs.EntryRecord.{EntryRecord}
+use Rattle.dali_machine.specs.History.{IsNext, AreNext, IsLegal, after_entry, state_after}
 use Rattle.dali_desk.specs.declared.status.Status.{Status}
 use Rattle.dali_desk.specs.declared.status.Status.TheVariants.{Done, Usage, ReadFault, PrintFault, DiskFault, LongLine, LongFile, OutOfMemory}
-use Rattle.dali_desk.specs.TextOf.{answer_to, texts, text_of, plain_entry, plain_history}
+use Rattle.dali_desk.specs.TextOf.{answer_to, texts, text_of, lines_of}
 use Rattle.dali_desk.specs.DayRun.{EndsDay, TakesDay, PrintsDay, LeavesDay, DayRun}
 use Rattle.dali_desk.specs.DaySoFar.{Quiet}
 use Rattle.dali_desk.proofs.Printing.{goes_on, goes_nowhere}
@@ -21,26 +21,29 @@ use Rattle.dali_desk.proofs.Printing.{goes_on, goes_nowhere}
 -- the text and the state of one more entry
 pub texts_more : (m : Machine) (entries : List EntryRecord) (e : EntryRecord) → texts m (entries ++ e ∷ []) ≡ texts m entries ++ answer_to (state_after m entries) e
 texts_more m [] e = append-nil (answer_to m e)
-texts_more m (x ∷ entries) e = ap (λ xs. answer_to m x ++ xs) (texts_more (step x.edition m x.line).next entries e)
-    ∙ sym (append_assoc (answer_to m x) (texts (step x.edition m x.line).next entries) (answer_to (state_after (step x.edition m x.line).next entries) e))
+texts_more m (x ∷ entries) e = ap (λ xs. answer_to m x ++ xs) (texts_more (after_entry m x) entries e)
+    ∙ sym (append_assoc (answer_to m x) (texts (after_entry m x) entries) (answer_to (state_after (after_entry m x) entries) e))
 
-pub state_more : (m : Machine) (entries : List EntryRecord) (e : EntryRecord) → state_after m (entries ++ e ∷ []) ≡ (step e.edition (state_after m entries) e.line).next
+pub state_more : (m : Machine) (entries : List EntryRecord) (e : EntryRecord) → state_after m (entries ++ e ∷ []) ≡ after_entry (state_after m entries) e
 state_more m [] e = refl
-state_more m (x ∷ entries) e = state_more (step x.edition m x.line).next entries e
+state_more m (x ∷ entries) e = state_more (after_entry m x) entries e
 
-pub plain_more : (lines : List (List ℕ)) (line : List ℕ) → plain_history (lines ++ line ∷ []) ≡ plain_history lines ++ plain_entry line ∷ []
-plain_more lines line = map-append plain_entry lines (line ∷ [])
+pub lines_more : (entries : List EntryRecord) (e : EntryRecord) → lines_of (entries ++ e ∷ []) ≡ lines_of entries ++ e.line ∷ []
+lines_more entries e = map-append (λ (x : EntryRecord). x.line) entries (e ∷ [])
 
--- the lines of a day make a legal history
-pub plain_is_legal : (lines : List (List ℕ)) → All (λ line. IsTrue (is_line line)) lines → IsLegal (plain_history lines)
-plain_is_legal lines are = record {
-  entries = All-map IsEntry plain_entry lines (λ k d within. record { line = are k d within; choice = refl });
-  editions = λ i j d below within.
-      let count = length-map lines plain_entry in
-      let one = ap (λ (e : EntryRecord). e.edition) (get_or-map plain_entry lines i [] d (omega (arith, below, within, count))) in
-      let two = ap (λ (e : EntryRecord). e.edition) (get_or-map plain_entry lines j [] d (omega (arith, within, count))) in
-      omega (arith, one, two);
-}
+-- the edition of the last entry
+abbrev pub last_edition : ℕ → List EntryRecord → ℕ
+last_edition last [] = last
+last_edition last (e ∷ entries) = last_edition e.edition entries
+
+pub last_low : (last : ℕ) (entries : List EntryRecord) → last ≤ 1 → All (λ (e : EntryRecord). e.edition ≡ 1) entries → last_edition last entries ≤ 1
+last_low last [] low all = low
+last_low last (e ∷ entries) low all = last_low e.edition entries (let first = All-head (λ (x : EntryRecord). x.edition ≡ 1) e entries all in omega (arith, first)) (All-tail (λ (x : EntryRecord). x.edition ≡ 1) e entries all)
+
+-- one more entry that may come next
+pub next_more : (m : Machine) (last : ℕ) (entries : List EntryRecord) (e : EntryRecord) → AreNext m last entries → IsNext (state_after m entries) (last_edition last entries) e → AreNext m last (entries ++ e ∷ [])
+next_more m last [] e are next = (next, tt)
+next_more m last (x ∷ entries) e are next = (are.0, next_more (after_entry m x) x.edition entries e are.1 next)
 
 pub quiet_start : (told : Bool) (s : Sight) → Quiet told s s
 quiet_start told s = record { goes = goes_nowhere s; disk = λ t. record { bytes = refl; loose = refl }; syncs = omega arith }
@@ -75,31 +78,32 @@ not_past old new lines takes small =
 
 -- How a day ended. That it is done where nothing stands in the way follows from the rest.
 pub ended : (source_tells site_tells : Bool) (old new : Feed) (before after : Sight) (status : Status) → EndsDay status → (status ≡ ReadFault → Rose old.faults new.faults) →
-    (status ≡ PrintFault → Rose before.print_faults after.print_faults) → old.faults ≤ new.faults → Quiet site_tells before after → (lines : List (List ℕ)) →
-    All (λ line. IsTrue (is_line line)) lines → (IsTrue source_tells → TakesDay old new lines status) → (IsTrue site_tells → PrintsDay status (text_of (plain_history lines)) before after) →
-    (IsTrue site_tells → LeavesOnly (LeavesDay before (text_of (plain_history lines))) before after) →
+    (status ≡ PrintFault → Rose before.print_faults after.print_faults) → old.faults ≤ new.faults → Quiet site_tells before after → (history : List EntryRecord) →
+    All (λ (e : EntryRecord). e.edition ≡ 1) history → AreNext opening 0 history → (IsTrue source_tells → TakesDay old new (lines_of history) status) → (IsTrue site_tells → PrintsDay status (text_of history) before after) →
+    (IsTrue site_tells → LeavesOnly (LeavesDay before (text_of history)) before after) →
     DayRun source_tells site_tells old new before after status
-ended source_tells site_tells old new before after status ends read_fault print_fault faults quiet lines are input text stops = record {
+ended source_tells site_tells old new before after status ends read_fault print_fault faults quiet history editions legal input text stops = record {
   statuses = ends;
   read_fault = read_fault;
   print_fault = print_fault;
   faults = faults;
   goes = quiet.goes;
-  lines = lines;
-  legal = plain_is_legal lines are;
+  history = history;
+  editions = editions;
+  legal = record { entries = legal };
   input = input;
   text = text;
   stops = stops;
   disk = quiet.disk;
   syncs = quiet.syncs;
-  complete = λ t small short no_read no_print. (elim status as (λ s. EndsDay s → (s ≡ ReadFault → Rose old.faults new.faults) → (s ≡ PrintFault → Rose before.print_faults after.print_faults) → TakesDay old new lines s → (s ≡ Done) ⊎ (s ≡ OutOfMemory)) [
+  complete = λ t small short no_read no_print. (elim status as (λ s. EndsDay s → (s ≡ ReadFault → Rose old.faults new.faults) → (s ≡ PrintFault → Rose before.print_faults after.print_faults) → TakesDay old new (lines_of history) s → (s ≡ Done) ⊎ (s ≡ OutOfMemory)) [
     | Done ↦ λ _ _ _ _. inl refl
     | Usage ↦ λ e _ _ _. absurd e
     | ReadFault ↦ λ _ rose _ _. absurd (no_read (rose refl))
     | PrintFault ↦ λ _ _ rose _. absurd (no_print (rose refl))
     | DiskFault ↦ λ e _ _ _. absurd e
-    | LongLine k ↦ λ _ _ _ takes. absurd (not_long k old new lines takes short)
-    | LongFile ↦ λ _ _ _ takes. absurd (not_past old new lines takes small)
+    | LongLine k ↦ λ _ _ _ takes. absurd (not_long k old new (lines_of history) takes short)
+    | LongFile ↦ λ _ _ _ takes. absurd (not_past old new (lines_of history) takes small)
     | OutOfMemory ↦ λ _ _ _ _. inr refl
   ]) ends read_fault print_fault (input t);
 }

@@ -6,3 +6,4 @@ pub mod Long
 pub mod Endings
 pub mod Days
 pub mod SoFar
+pub mod Choosing

@@ -5,8 +5,9 @@ use Rattle.dali_outside.specs.Stops.{IsImage, LeavesOnly}
 use Rattle.dali_line.specs.Commands.{commands, ended_commands}
 use Rattle.dali_line.specs.Line.{MOST_OF_COMMAND}
 use Rattle.dali_line.specs.Lines.{FirstIsLong, MOST_OF_FILE}
+use Rattle.dali_machine.specs.EntryRecord.{EntryRecord}
 use Rattle.dali_machine.specs.History.{IsLegal}
-use Rattle.dali_desk.specs.TextOf.{text_of, plain_history}
+use Rattle.dali_desk.specs.TextOf.{lines_of, text_of}
 use Rattle.dali_desk.specs.declared.status.Status.{Status}
 use Rattle.dali_desk.specs.declared.status.Status.TheVariants.{Done, Usage, ReadFault, PrintFault, DiskFault, LongLine, LongFile, OutOfMemory}
 
@@ -122,8 +123,8 @@ PrintsDay (LongLine k) text old new = new.printed ≡ old.printed ++ text
 PrintsDay LongFile text old new = new.printed ≡ old.printed ++ text
 PrintsDay OutOfMemory text old new = new.printed ≡ old.printed ++ text
 
--- What a run of `day` does that doesn't open its journal: it takes these lines as a legal history of edition 1, and prints
--- the history's text.
+-- What a run of `day` does that doesn't open its journal: it takes its lines as a legal history of edition 1, whose cycles
+-- have allowed choices, and prints the history's text.
 pub record DayRun (source_tells site_tells : Bool) (old new : Feed) (before after : Sight) (status : Status) : Type 0 where
   pub statuses : EndsDay status
   -- a fault comes only where its count rose
@@ -132,12 +133,13 @@ pub record DayRun (source_tells site_tells : Bool) (old new : Feed) (before afte
   pub faults : old.faults ≤ new.faults
   pub goes : Goes before after
   -- the history, its lines in the input, and its text
-  pub lines : List (List ℕ)
-  pub legal : IsLegal (plain_history lines)
-  pub input : IsTrue source_tells → TakesDay old new lines status
-  pub text : IsTrue site_tells → PrintsDay status (text_of (plain_history lines)) before after
+  pub history : List EntryRecord
+  pub editions : All (λ (e : EntryRecord). e.edition ≡ 1) history
+  pub legal : IsLegal history
+  pub input : IsTrue source_tells → TakesDay old new (lines_of history) status
+  pub text : IsTrue site_tells → PrintsDay status (text_of history) before after
   -- at every moment since the start a stop leaves a disk that it might have left at the start, and a front of the text
-  pub stops : IsTrue site_tells → LeavesOnly (LeavesDay before (text_of (plain_history lines))) before after
+  pub stops : IsTrue site_tells → LeavesOnly (LeavesDay before (text_of history)) before after
   -- the disk is as before, and nothing was synced
   pub disk : IsTrue site_tells → SameDisk before after
   pub syncs : after.syncs ≤ before.syncs

@@ -1,4 +1,4 @@
-use Rattle.std.specs.Prelude.{◌≡◌, ℕ, ◌+◌, ◌≤◌, Bool, true, false, IsTrue, List, [], ◌∷◌, ◌++◌, length, Result, Ok, Err}
+use Rattle.std.specs.Prelude.{◌≡◌, ℕ, ◌+◌, ◌≤◌, Bool, true, false, IsTrue, List, [], ◌∷◌, ◌++◌, length, Option, Result, Ok, Err}
 use Rattle.std.specs.List.{All}
 use Rattle.dali_outside.specs.Outside.{Feed, Sight, Rose, Goes, SameDisk}
 use Rattle.dali_outside.specs.Stops.{LeavesOnly}
@@ -7,10 +7,12 @@ use Rattle.dali_line.specs.Line.{is_line}
 use Rattle.dali_line.specs.Lines.{Reader, MOST_OF_FILE}
 use Rattle.dali_line.specs.declared.line_end.LineEnd.{LineEnd}
 use Rattle.dali_line.specs.declared.line_end.LineEnd.TheVariants as ends
-use Rattle.dali_machine.specs.Machine.{Machine}
-use Rattle.dali_machine.specs.Step.{step}
-use Rattle.dali_machine.specs.History.{EntryRecord, state_of}
-use Rattle.dali_desk.specs.TextOf.{answer_to, text_of, plain_history}
+use Rattle.dali_tree.specs.declared.choice.Choice.{Choice}
+use Rattle.dali_machine.specs.EntryRecord.{EntryRecord}
+use Rattle.dali_machine.specs.Machine.{Machine, opening}
+use Rattle.dali_machine.specs.Step.{judged}
+use Rattle.dali_machine.specs.History.{HasItsChoice, AreNext, after_entry, state_of}
+use Rattle.dali_desk.specs.TextOf.{answer_to, text_of, lines_of, first_entry}
 use Rattle.dali_desk.specs.DayRun.{PrintsFront, LeavesDay}
 use Rattle.dali_desk.specs.declared.status.Status.{Status}
 use Rattle.dali_desk.specs.declared.status.Status.TheVariants.{Done, ReadFault, PrintFault, LongLine, LongFile, OutOfMemory}
@@ -45,42 +47,49 @@ pub record Quiet (told : Bool) (old new : Sight) : Type 0 where
   pub disk : IsTrue told → SameDisk old new
   pub syncs : new.syncs ≤ old.syncs
 
--- A day between two commands: these lines were taken since the start, the state is that of their history, and its text
--- was printed.
+-- A day between two commands: the lines of this history were taken since the start, it is legal so far, the state is its
+-- own, and its text was printed.
 pub record DaySoFar (source_tells site_tells : Bool) (old : Feed) (before : Sight) (reader : Reader) (machine : Machine) (feed : Feed) (sight : Sight) : Type 0 where
-  pub lines : List (List ℕ)
-  pub are : All (λ line. IsTrue (is_line line)) lines
-  pub reads : Reads source_tells old lines reader feed
+  pub history : List EntryRecord
+  pub are : All (λ line. IsTrue (is_line line)) (lines_of history)
+  pub editions : All (λ (e : EntryRecord). e.edition ≡ 1) history
+  pub legal : AreNext opening 0 history
+  pub reads : Reads source_tells old (lines_of history) reader feed
   pub faults : old.faults ≤ feed.faults
-  pub state : machine ≡ state_of (plain_history lines)
+  pub state : machine ≡ state_of history
   pub counted : machine.commands ≡ reader.given
   pub quiet : Quiet site_tells before sight
-  pub text : IsTrue site_tells → sight.printed ≡ before.printed ++ text_of (plain_history lines)
-  pub stops : IsTrue site_tells → LeavesOnly (LeavesDay before (text_of (plain_history lines))) before sight
+  pub text : IsTrue site_tells → sight.printed ≡ before.printed ++ text_of history
+  pub stops : IsTrue site_tells → LeavesOnly (LeavesDay before (text_of history)) before sight
 
--- a command was taken and its reply printed
-pub record TakesCommand (told : Bool) (e : EntryRecord) (old new : Machine) (before after : Sight) : Type 0 where
-  pub next : new ≡ (step e.edition old e.line).next
+-- a line was taken with its choice, where it is a cycle, and its reply printed
+pub record TakesCommand (told : Bool) (line : List ℕ) (old new : Machine) (before after : Sight) : Type 0 where
+  pub choice : Option Choice
+  pub has : HasItsChoice old (judged 1 old line) choice
+  pub next : new ≡ after_entry old (first_entry line choice)
   pub commands : new.commands ≡ old.commands + 1
-  pub printed : IsTrue told → after.printed ≡ before.printed ++ answer_to old e
+  pub printed : IsTrue told → after.printed ≡ before.printed ++ answer_to old (first_entry line choice)
+  pub stops : IsTrue told → LeavesOnly (LeavesDay before (answer_to old (first_entry line choice))) before after
 
--- a command was taken, and a front of its reply printed
-pub record PrintsInPart (told : Bool) (e : EntryRecord) (old : Machine) (before after : Sight) : Type 0 where
-  pub front : IsTrue told → PrintsFront (answer_to old e) before after
+-- a line was taken with its choice, and a front of its reply printed
+pub record PrintsInPart (told : Bool) (line : List ℕ) (old : Machine) (before after : Sight) : Type 0 where
+  pub choice : Option Choice
+  pub has : HasItsChoice old (judged 1 old line) choice
+  pub front : IsTrue told → PrintsFront (answer_to old (first_entry line choice)) before after
   pub rose : Rose before.print_faults after.print_faults
+  pub stops : IsTrue told → LeavesOnly (LeavesDay before (answer_to old (first_entry line choice))) before after
 
 -- what taking one command came to
-abbrev pub AnswersAs : Bool → EntryRecord → Machine → Machine → Sight → Sight → Result Unit Status → Type 0
-AnswersAs told e old new before after (Ok u) = TakesCommand told e old new before after
-AnswersAs told e old new before after (Err PrintFault) = PrintsInPart told e old before after
-AnswersAs told e old new before after (Err OutOfMemory) = after ≡ before
-AnswersAs told e old new before after (Err status) = ⊥
+abbrev pub AnswersAs : Bool → List ℕ → Machine → Machine → Sight → Sight → Result Unit Status → Type 0
+AnswersAs told line old new before after (Ok u) = TakesCommand told line old new before after
+AnswersAs told line old new before after (Err PrintFault) = PrintsInPart told line old before after
+AnswersAs told line old new before after (Err OutOfMemory) = after ≡ before
+AnswersAs told line old new before after (Err status) = ⊥
 
 -- taking one command: the disk stays, and it came to this
-pub record Answers (told : Bool) (e : EntryRecord) (old new : Machine) (before after : Sight) (result : Result Unit Status) : Type 0 where
+pub record Answers (told : Bool) (line : List ℕ) (old new : Machine) (before after : Sight) (result : Result Unit Status) : Type 0 where
   pub quiet : Quiet told before after
-  pub stops : IsTrue told → LeavesOnly (LeavesDay before (answer_to old e)) before after
-  pub came : AnswersAs told e old new before after result
+  pub came : AnswersAs told line old new before after result
 
 -- how the day ends where the reader of lines gives no more
 abbrev pub status_of_end : LineEnd → Status

@@ -1,26 +1,28 @@
-use Rattle.std.specs.Prelude.{ℕ, ◌+◌, List, [], ◌∷◌, ◌++◌, None, map}
+use Rattle.std.specs.Prelude.{ℕ, ◌+◌, List, [], ◌∷◌, ◌++◌, Option, map}
+use Rattle.dali_machine.specs.EntryRecord.{EntryRecord}
+use Rattle.dali_machine.specs.History.{after_entry}
 use Rattle.dali_machine.specs.Machine.{Machine, opening}
 use Rattle.dali_machine.specs.Step.{step}
-use Rattle.dali_machine.specs.History.{EntryRecord}
 use Rattle.dali_reply.specs.Reply.{reply_text}
+use Rattle.dali_tree.specs.declared.choice.Choice.{Choice}
 
 -- the reply to an entry in a state
 abbrev pub answer_to : Machine → EntryRecord → List ℕ
-answer_to m e = reply_text (m.commands + 1) (step e.edition m e.line).outcome
+answer_to m e = reply_text (m.commands + 1) (step e.edition m e.line e.choice).outcome
 
 -- the replies to these entries, one after the other
 abbrev pub texts : Machine → List EntryRecord → List ℕ
 texts m [] = []
-texts m (e ∷ entries) = answer_to m e ++ texts (step e.edition m e.line).next entries
+texts m (e ∷ entries) = answer_to m e ++ texts (after_entry m e) entries
 
 -- the text of a history
 abbrev pub text_of : List EntryRecord → List ℕ
 text_of history = texts opening history
 
--- an entry of edition 1 that has no choice
-abbrev pub plain_entry : List ℕ → EntryRecord
-plain_entry line = record { edition = 1; line = line; choice = None }
+-- the lines of a history
+abbrev pub lines_of : List EntryRecord → List (List ℕ)
+lines_of history = map (λ (e : EntryRecord). e.line) history
 
--- the history that a day without a journal makes of these lines
-abbrev pub plain_history : List (List ℕ) → List EntryRecord
-plain_history lines = map plain_entry lines
+-- an entry of edition 1
+abbrev pub first_entry : List ℕ → Option Choice → EntryRecord
+first_entry line choice = record { edition = 1; line = line; choice = choice }

@@ -1,8 +1,9 @@
-ghost use Rattle.std.specs.Prelude.{◌≡◌, ◌+◌, ◌<◌, ◌≤◌, ◌^◌, ℕ, IfErr, OnOk, IsTrue};
+ghost use Rattle.std.specs.Prelude.{◌≡◌, ◌+◌, ◌<◌, ◌≤◌, ◌^◌, ℕ, IfErr, IfOk, OnOk, IsTrue};
 ghost use Rattle.dali_outside.specs.Outside.{Feed, Sight};
 ghost use Rattle.dali_line.specs.Line.{is_line};
 ghost use Rattle.dali_line.specs.Lines.{MOST_OF_FILE};
-ghost use Rattle.dali_desk.specs.TextOf.{plain_entry};
+ghost use Rattle.dali_machine.specs.History.{HasItsChoice};
+ghost use Rattle.dali_machine.specs.Step.{judged};
 ghost use Rattle.dali_desk.specs.DayRun.{DayRun};
 ghost use Rattle.dali_desk.specs.DaySoFar.{DaySoFar, Answers, status_of_end};
 
@@ -12,6 +13,8 @@ use dali_line::{Line, LineEnd, Lines};
 use dali_machine::State;
 use dali_outside::{Failed, Site, Source};
 use dali_reply::reply;
+use dali_search::solve;
+use dali_tree::Choice;
 use std::alloc::Global;
 
 /// The edition of a day without a journal.
@@ -63,11 +66,14 @@ fn answer<T: Site>(
 ) -> Result<(), Status>
     requires few { state.old.machine.commands < 2 ^ 63 }
     ensures line { IsTrue (is_line line.now) }
-    ensures answers { Answers T.tells (plain_entry line.now) state.old.machine state.new.machine (T.sight site.old) (T.sight site.new) result }
+    ensures answers { Answers T.tells line.now state.old.machine state.new.machine (T.sight site.old) (T.sight site.new) result }
 {
     // Called for its clause alone: a history keeps such a line.
     let _bytes = line.bytes();
-    let Ok(ready) = state.prepare(EDITION, line) else {
+    let Ok(choice) = choose(alloc, state, line) else {
+        return Err(Status::OutOfMemory);
+    };
+    let Ok(ready) = state.prepare(EDITION, line, choice) else {
         return Err(Status::OutOfMemory);
     };
     let Ok(text) = reply(alloc, ready.number(), ready.outcome()) else {
@@ -77,6 +83,16 @@ fn answer<T: Site>(
     match site.put(text.bytes()) {
         Ok(()) => Ok(()),
         Err(Failed) => Err(Status::PrintFault),
+    }
+}
+
+/// The choice of an accepted CYCLE. `None` exactly where the line is none.
+fn choose(alloc: Global, state: &State, line: &Line) -> Result<Option<Choice>, OutOfMemory>
+    ensures { IfOk result (HasItsChoice state.now.machine (judged 1 state.now.machine line.now)) }
+{
+    match state.cycle_input(EDITION, line)? {
+        Some(cycle) => Ok(Some(solve(alloc, &cycle.0.problem, cycle.1)?)),
+        None => Ok(None),
     }
 }
 

@@ -48,15 +48,13 @@ fn spellings(rt: HostRuntime) -> Result<(), Fail> {
     )
 }
 
-/// Until cycles are built their lines are no commands, and move no moment.
+/// A cycle over an empty queue.
 #[test]
-fn cycles_are_not_built(rt: HostRuntime) -> Result<(), Fail> {
-    prints(
-        &rt,
-        rt.alloc(),
-        b"090000,CYCLE,0\n080000,PART,A\n",
-        b"1,NO,FORM\n2,OK\n",
-    )
+fn empty_cycle(rt: HostRuntime) -> Result<(), Fail> {
+    let five = b"1,CYCLE,OPTIMAL,0,0,0,0\nBLOCK,1\nBUDGET,5\nSET\nLAST\n1,END\n";
+    prints(&rt, rt.alloc(), b"080000,CYCLE,5\n", five)?;
+    let zero = b"1,CYCLE,OPTIMAL,0,0,0,0\nBLOCK,1\nBUDGET,0\nSET\nLAST\n1,END\n";
+    prints(&rt, rt.alloc(), b"080000,CYCLE,0\n", zero)
 }
 
 #[test]

@@ -5,20 +5,9 @@ ghost use Rattle.dali_tree.specs.Fits.{fix_fits, multiplier_fits, is_rising, lam
 ghost use Rattle.dali_tree.specs.Range.{IsInRange};
 ghost use Rattle.dali_tree.specs.Ends.{ends_fit, end_depth};
 
+use dali_base::limits::{MOST_BOUND, MOST_DEPTH, MOST_FIXES, MOST_MULTIPLIER};
 use dali_problem::Problem;
 use dali_tree::{Choice, End, Fix, Part, Tree};
-
-/// The greatest bound of a part, in centavos.
-const MOST_BOUND: u64 = 16_384_000_000_000_000_000;
-
-/// The most branches on a path of a tree.
-const MOST_DEPTH: u32 = 1024;
-
-/// The most fixes of a node.
-const MOST_FIXES: usize = 1024;
-
-/// The greatest multiplier.
-const MOST_MULTIPLIER: u64 = 1 << 44;
 
 /// Whether a choice fits a problem: all that it names is in range, and its lists rise. Takes no memory, and goes no
 /// deeper into a tree than a choice that fits.
@@ -29,8 +18,9 @@ pub fn fits(problem: &Problem, choice: &Choice) -> bool
     choice_fits(choice, problem.items(), problem.lines())
 }
 
-/// The same for so many items and lines.
-fn choice_fits(choice: &Choice, items: u32, lines: u32) -> bool
+/// Whether a choice fits every problem with so many items and lines. Takes no memory, and goes no deeper into a tree than
+/// a choice that fits.
+pub fn choice_fits(choice: &Choice, items: u32, lines: u32) -> bool
     ensures { IsTrue result ↔ Fits items lines choice.now }
 {
     let parts = choice.parts.as_slice();

@@ -72,20 +72,20 @@ goes_left f w j within gone goes = record {
 abbrev pub with : ℕ → (ℕ → Bool) → ℕ → Bool
 with j w i = eqb i j || w i
 
-with_here : (w : ℕ → Bool) (j i : ℕ) → i ≡ j → with j w i ≡ true
+pub with_here : (w : ℕ → Bool) (j i : ℕ) → i ≡ j → with j w i ≡ true
 with_here w j i same = elim (eqb_tells i j) as (λ _. with j w i ≡ true) [
   | inl is ↦ ap (λ b. b || w i) is.0
   | inr other ↦ absurd (other.1 same)
 ]
 
-with_there : (w : ℕ → Bool) (j i : ℕ) → i ≢ j → with j w i ≡ w i
+pub with_there : (w : ℕ → Bool) (j i : ℕ) → i ≢ j → with j w i ≡ w i
 with_there w j i off = elim (eqb_tells i j) as (λ _. with j w i ≡ w i) [
   | inl is ↦ absurd (off is.1)
   | inr other ↦ ap (λ b. b || w i) other.0
 ]
 
 -- an undecided place more leaves it going with the partial choice
-with_goes : (f : List Mark) (w : ℕ → Bool) (j : ℕ) → mark f j ≡ Undecided → Goes f w → Goes f (with j w)
+pub with_goes : (f : List Mark) (w : ℕ → Bool) (j : ℕ) → mark f j ≡ Undecided → Goes f w → Goes f (with j w)
 with_goes f w j undecided goes = record {
   chosen = (λ i is. elim (cases_eq i j) as (λ _. with j w i ≡ true) [
     | inl same ↦ with_here w j i same
@@ -108,7 +108,7 @@ with_goes f w j undecided goes = record {
     undecided_left is = cc
 
 -- what a line has after the place more
-with_total : (p : Clearing) (w : ℕ → Bool) (j l : ℕ) → j < length p.items → w j ≡ false →
+pub with_total : (p : Clearing) (w : ℕ → Bool) (j l : ℕ) → j < length p.items → w j ≡ false →
     total p (with j w) l ≡ total p w l +ℤ effect p j l
 with_total p w j l within gone =
     let change = sum_below_change (λ i. pick (w i) (effect p i l)) (λ i. pick (with j w i) (effect p i l)) (length p.items) j within
@@ -160,6 +160,16 @@ safe_covers p f w j limits size safe gone covers goes =
         let least = line_least p f w l goes in
         let up = up_from (held p f l +ℤ debits p f l) told in
         omega (arith, ints, least, up)
+
+-- what it is worth after the place more
+pub with_value : (p : Clearing) (w : ℕ → Bool) (j : ℕ) → j < length p.items → w j ≡ false →
+    worth_of p (with j w) ≡ worth_of p w +ℤ pos (worth p j)
+with_value p w j within gone =
+    let change = sum_below_change (λ i. pick (w i) (pos (worth p i))) (λ i. pick (with j w i) (pos (worth p i))) (length p.items) j within
+    (λ i below off. ap (λ b. pick b (pos (worth p i))) (with_there w j i off)) in
+    let here : pick (with j w j) (pos (worth p j)) ≡ pos (worth p j) = ap (λ b. pick b (pos (worth p j))) (with_here w j j refl) in
+    let was : pick (w j) (pos (worth p j)) ≡ pos 0 = ap (λ b. pick b (pos (worth p j))) gone in
+    omega (arith, ints, change, here, was)
 
 with_worth : (p : Clearing) (w : ℕ → Bool) (j : ℕ) → worth_of p w ≤ℤ worth_of p (with j w)
 with_worth p w j = sum_below_le (λ i. pick (w i) (pos (worth p i))) (λ i. pick (with j w i) (pos (worth p i))) (length p.items)

@@ -58,7 +58,7 @@ past_line p j l limits past = elim (cases_lt j (length p.items)) as (λ _. effec
   | inr none ↦ ap (λ (item : Item). sum_over (on_line l) item.effects) (get_or_past p.items j no_item none)
 ]
 
-past_total : (p : Clearing) (w : ℕ → Bool) (l : ℕ) → IsProblem p → length p.lines ≤ l → total p w l ≡ pos 0
+pub past_total : (p : Clearing) (w : ℕ → Bool) (l : ℕ) → IsProblem p → length p.lines ≤ l → total p w l ≡ pos 0
 past_total p w l limits past =
     let bal : balance p l ≡ pos 0 = ap (λ (row : LineRow). pos row.balance) (get_or_past p.lines l no_line past) in
     let none : sum_below (λ j. pick (w j) (effect p j l)) (length p.items) ≡ sum_below (λ _. pos 0) (length p.items) =

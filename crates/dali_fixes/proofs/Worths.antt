@@ -10,7 +10,7 @@ use Rattle.dali_problem.specs.declared.mark.Mark.TheVariants.{Stranger, Chosen, 
 use Rattle.dali_problem.specs.Sums.{pick}
 use Rattle.dali_problem.specs.Clearing.{Clearing, balance, worth, effect}
 use Rattle.dali_problem.specs.Limits.{IsProblem}
-use Rattle.dali_problem.specs.Feasible.{ArePlaces, IsFeasible, value_of}
+use Rattle.dali_problem.specs.Feasible.{ArePlaces, booked, IsFeasible, value_of}
 use Rattle.dali_problem.specs.Partial.{mark, is_decided, Agrees}
 use Rattle.dali_problem.proofs.SetLaws.{is_in, is_in_of, contains_of, booked_in, value_in}
 use Rattle.dali_problem.proofs.SumLaws.{sum_below_same}
@@ -81,40 +81,59 @@ below_is w n j below = elim (cases_Bool (w j)) as (λ _. is_in j (places_below w
       (λ told. (let there = below_has w n j (contains_of (places_below w n) j told) in cc (there, gone))) ∙ sym gone
 ]
 
--- what a test tells, a list of places has
-worth_found : (p : Clearing) (g : List Mark) (v : ℕ) → length g ≡ length p.items → Finds p g (pos v) → HasWorth p g v
-worth_found p g v size found =
+-- the list of the places that a test has: what it books and what it is worth are those of the test
+pub record Listed (p : Clearing) (w : ℕ → Bool) : Type 0 where
+  pub set : List ℕ
+  pub places : ArePlaces p set
+  pub member : (j : ℕ) → Contains set j → w j ≡ true
+  pub inside : (j : ℕ) → j < length p.items → w j ≡ true → Contains set j
+  pub after : (l : ℕ) → booked p set l ≡ total p w l
+  pub value : pos (value_of p set) ≡ worth_of p w
+
+pub listed : (p : Clearing) (w : ℕ → Bool) → Listed p w
+listed p w =
     let n = length p.items in
-    let w = found.test in
     let set : List ℕ = places_below w n in
     let are : ArePlaces p set = record { rising = below_rising w n; in_range = below_range w n } in
     record {
       set = set;
       places = are;
-      feasible = record {
-        covered = (λ l within.
-            let same = sum_below_same (λ j. pick (is_in j set) (effect p j l)) (λ j. pick (w j) (effect p j l)) n
-            (λ j below. ap (λ b. pick b (effect p j l)) (below_is w n j below)) in
-            let all = booked_in p set l are in
-            let up = found.covers.covered l in
-            omega (arith, ints, same, all, up));
-      };
-      agrees = record {
-        members = (λ j there stranger. (let told = below_has w n j there in let out = found.goes.stranger j stranger in cc (told, out)));
-        chosen = (λ j is. has_below w n j (inside j is) (found.goes.chosen j is));
-        left = (λ j there is. (let told = below_has w n j there in let out = found.goes.left j is in cc (told, out)));
-      };
-      least = (
-          let same = sum_below_same (λ j. pick (is_in j set) (pos (worth p j))) (λ j. pick (w j) (pos (worth p j))) n
-          (λ j below. ap (λ b. pick b (pos (worth p j))) (below_is w n j below)) in
-          let all = value_in p set are in
-          omega (arith, ints, same, all, found.least));
+      member = below_has w n;
+      inside = has_below w n;
+      after = (λ l. booked_in p set l are ∙ ap (λ z. balance p l +ℤ z)
+          (sum_below_same (λ j. pick (is_in j set) (effect p j l)) (λ j. pick (w j) (effect p j l)) n
+          (λ j below. ap (λ b. pick b (effect p j l)) (below_is w n j below))));
+      value = value_in p set are
+          ∙ sum_below_same (λ j. pick (is_in j set) (pos (worth p j))) (λ j. pick (w j) (pos (worth p j))) n
+          (λ j below. ap (λ b. pick b (pos (worth p j))) (below_is w n j below));
     }
+
+-- it is feasible where the test covers
+pub listed_feasible : (p : Clearing) (w : ℕ → Bool) → Covers p w → IsFeasible p (listed p w).set
+listed_feasible p w covers = record { covered = (λ l within. subst (λ z. pos 0 ≤ℤ z) (sym ((listed p w).after l)) (covers.covered l)) }
+
+-- and agrees where the test goes with a partial choice
+pub listed_agrees : (p : Clearing) (g : List Mark) (w : ℕ → Bool) → length g ≡ length p.items → Goes g w → Agrees g (listed p w).set
+listed_agrees p g w size goes = record {
+  members = (λ j there stranger. (let told = (listed p w).member j there in let out = goes.stranger j stranger in cc (told, out)));
+  chosen = (λ j is. (listed p w).inside j (inside j is) (goes.chosen j is));
+  left = (λ j there is. (let told = (listed p w).member j there in let out = goes.left j is in cc (told, out)));
+}
   where
     inside : (j : ℕ) → mark g j ≡ Chosen → j < length p.items
     inside j is =
         let within = within_decided g j (ap is_decided is) in
         omega (arith, within, size)
+
+-- what a test tells, a list of places has
+worth_found : (p : Clearing) (g : List Mark) (v : ℕ) → length g ≡ length p.items → Finds p g (pos v) → HasWorth p g v
+worth_found p g v size found = record {
+  set = (listed p found.test).set;
+  places = (listed p found.test).places;
+  feasible = listed_feasible p found.test found.covers;
+  agrees = listed_agrees p g found.test size found.goes;
+  least = (let value = (listed p found.test).value in omega (arith, ints, value, found.least));
+}
 
 -- fixes leave something as good
 pub fixes_keep_worth : (p : Clearing) (fixes : List Fix) (f g : List Mark) → IsProblem p → length f ≡ length p.items →

@@ -5,6 +5,8 @@
 //! Lines and places are counted from 0.
 #![tactic(auto)]
 
+mod laws;
 mod steps;
 
+pub use laws::safe_exchanges;
 pub use steps::{apply, undo};

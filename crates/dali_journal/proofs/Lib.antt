@@ -5,3 +5,4 @@ pub mod AppendLemmas
 pub mod HeaderLemmas
 pub mod GroupLemmas
 pub mod OneList
+pub mod OutsideLemmas

@@ -1,4 +1,4 @@
-use Rattle.std.specs.Prelude.{◌≡◌, ◌⊎◌, ℕ, ◌+◌, ◌<◌, Bool, true, false, List, ◌++◌, All, length, replicate}
+use Rattle.std.specs.Prelude.{◌≡◌, ◌⊎◌, ℕ, ◌+◌, ◌<◌, Bool, true, false, List, ◌++◌, All, length, take, drop, replicate}
 use Rattle.dali_outside.specs.Outside.{Sight, overlay}
 use Rattle.dali_outside.specs.Stops.{MightHaveLeft, MightHaveLeftAt, LeavesOnly}
 use Rattle.dali_journal.specs.Holds.{Holds, HoldsAt}
@@ -42,3 +42,8 @@ pub record Appends (worked : Bool) (tail edition : ℕ) (list more : List (List 
 pub record EitherEdition (tail edition : ℕ) (list : List (List ℕ)) (printed image text : List ℕ) : Type 0 where
   pub one : HoldsAt tail edition list image ⊎ HoldsAt tail (edition + 1) list image
   pub silent : text ≡ printed
+
+-- outside of n bytes from a place on, a device's bytes are as before; within them any may stand
+pub record StaysOutside (at n : ℕ) (old new : Sight) : Type 0 where
+  pub before : take at new.bytes ≡ take at old.bytes
+  pub behind : drop (at + n) new.bytes ≡ drop (at + n) old.bytes

@@ -1,7 +1,7 @@
 ghost use Rattle.std.specs.Prelude.{◌≡◌, ◌≢◌, ◌↔◌, ◌+◌, ◌-◌, ◌≤◌, ◌<◌, [], ◌∷◌, ℕ, List, true, false, length, is_ok, OnOk, OnErr, IsErrOf, IsTrue};
 ghost use Rattle.dali_outside.specs.Outside.{Rose, Goes, overlay};
 ghost use Rattle.dali_journal.specs.Frames.{payload_of, frames_length, AreFrames, AreShort};
-ghost use Rattle.dali_journal.specs.Appends.{AtRest, Appends};
+ghost use Rattle.dali_journal.specs.Appends.{AtRest, Appends, StaysOutside};
 
 use crate::firm::write_firm;
 use crate::group::Group;
@@ -19,13 +19,14 @@ impl Journal {
     ///
     /// `JournalFull` comes exactly where the frame and the gate before it don't fit, with the bytes that they need and
     /// the bytes left; nothing is written then. `DiskFault` comes only where the count of disk faults rose. Either list
-    /// may then stand, and the journal is given up.
+    /// may then stand, and the journal is given up. At every answer the bytes before the tail and behind the frame stay.
     pub fn append<T: Site>(&mut self, site: &mut T, frame: &Sealed) -> Result<(), AppendNo>
         requires at_site { self.old.tail + self.old.left ≡ (T.sight site.old).size }
         requires ended { self.old.ended ≡ true }
         ensures stops { IsTrue T.tells → (edition : ℕ) (list : List (List ℕ)) → AtRest self.old.tail edition list (T.sight site.old) →
             Appends (is_ok result) self.old.tail edition list (payload_of frame.now ∷ []) frame.now (T.sight site.old) (T.sight site.new) }
         ensures bytes { IsTrue T.tells → OnOk result ((T.sight site.new).bytes ≡ overlay (T.sight site.old).bytes self.old.tail (1 ∷ frame.now)) }
+        ensures outside { IsTrue T.tells → StaysOutside self.old.tail (length frame.now + 1) (T.sight site.old) (T.sight site.new) }
         ensures moved { OnOk result (self.new ≡ record self.old { tail = self.old.tail + length frame.now; left = self.old.left - length frame.now }) }
         ensures fits { OnOk result (length frame.now < self.old.left) }
         ensures full { (need left : ℕ) → IsErrOf result (AppendNo.JournalFull need left) ↔ ((self.old.left < length frame.now + 1) × (need ≡ length frame.now + 1) × (left ≡ self.old.left)) }
@@ -48,7 +49,7 @@ impl Journal {
     ///
     /// `JournalFull` comes exactly where the group's bytes and a gate don't fit, with the bytes that they need and the
     /// bytes left; nothing is written then. `DiskFault` comes only where the count of disk faults rose. Either list may
-    /// then stand, and the journal is given up.
+    /// then stand, and the journal is given up. At every answer the bytes before the tail and behind the frames stay.
     pub fn append_group<T: Site>(&mut self, site: &mut T, group: &Group) -> Result<(), AppendNo>
         requires at_site { self.old.tail + self.old.left ≡ (T.sight site.old).size }
         requires ended { self.old.ended ≡ true }
@@ -56,6 +57,7 @@ impl Journal {
         ensures stops { IsTrue T.tells → (edition : ℕ) (list : List (List ℕ)) → AtRest self.old.tail edition list (T.sight site.old) →
             (frames : List ℕ) × AreFrames group.now frames × (length frames ≡ frames_length group.now) × Appends (is_ok result) self.old.tail edition list group.now frames (T.sight site.old) (T.sight site.new) }
         ensures bytes { IsTrue T.tells → OnOk result ((frames : List ℕ) × AreFrames group.now frames × ((T.sight site.new).bytes ≡ overlay (T.sight site.old).bytes self.old.tail (1 ∷ frames))) }
+        ensures outside { IsTrue T.tells → StaysOutside self.old.tail (frames_length group.now + 1) (T.sight site.old) (T.sight site.new) }
         ensures moved { OnOk result (self.new ≡ record self.old { tail = self.old.tail + frames_length group.now; left = self.old.left - frames_length group.now }) }
         ensures fits { OnOk result (frames_length group.now < self.old.left) }
         ensures full { (need left : ℕ) → IsErrOf result (AppendNo.JournalFull need left) ↔ ((self.old.left < frames_length group.now + 1) × (need ≡ frames_length group.now + 1) × (left ≡ self.old.left)) }
@@ -77,6 +79,7 @@ impl Journal {
             AtRest self.old.tail edition list (T.sight site.old) →
             Appends (is_ok result) self.old.tail edition list more frames.now (T.sight site.old) (T.sight site.new) }
         ensures bytes { IsTrue T.tells → OnOk result ((T.sight site.new).bytes ≡ overlay (T.sight site.old).bytes self.old.tail (1 ∷ frames.now)) }
+        ensures outside { IsTrue T.tells → StaysOutside self.old.tail (length frames.now + 1) (T.sight site.old) (T.sight site.new) }
         ensures moved { OnOk result (self.new ≡ record self.old { tail = self.old.tail + length frames.now; left = self.old.left - length frames.now }) }
         ensures fits { OnOk result (length frames.now < self.old.left) }
         ensures full { (need left : ℕ) → IsErrOf result (AppendNo.JournalFull need left) ↔ ((self.old.left < length frames.now + 1) × (need ≡ length frames.now + 1) × (left ≡ self.old.left)) }
@@ -116,6 +119,7 @@ fn write_behind<T: Site>(site: &mut T, tail: u64, frames: &[u8]) -> Result<(), F
         AtRest tail edition list (T.sight site.old) →
         Appends (is_ok result) tail edition list more frames.now (T.sight site.old) (T.sight site.new) }
     ensures bytes { IsTrue T.tells → OnOk result ((T.sight site.new).bytes ≡ overlay (T.sight site.old).bytes tail (1 ∷ frames.now)) }
+    ensures outside { IsTrue T.tells → StaysOutside tail (length frames.now + 1) (T.sight site.old) (T.sight site.new) }
     ensures silent { IsTrue T.tells → (T.sight site.new).printed ≡ (T.sight site.old).printed }
     ensures goes { Goes (T.sight site.old) (T.sight site.new) }
     ensures syncs { (T.sight site.new).syncs ≤ (T.sight site.old).syncs + 2 }

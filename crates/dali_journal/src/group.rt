@@ -1,20 +1,16 @@
 ghost use Rattle.std.specs.Prelude.{◌≡◌, ◌≢◌, ◌+◌, ◌*◌, ◌-◌, ◌≤◌, ◌<◌, ◌++◌, [], ◌∷◌, ℕ, List, length, drop, IfOk};
 ghost use Rattle.std.specs.Prelude.{vec_len, vec_capacity};
+ghost use Rattle.dali_journal.specs.Limits.{most_payloads, most_grouped};
 ghost use Rattle.dali_journal.specs.Frames.{frames_length, open_records, AreFrames, AreShort};
 ghost use Rattle.dali_journal.specs.Holds.{gated};
 
+use crate::limits::{MOST_GROUPED, MOST_PAYLOADS};
 use dali_base::OutOfMemory;
 use std::alloc::Global;
 use std::marker::Model;
 
-/// The most payloads of a group.
-const MOST_PAYLOADS: usize = 64;
-
-/// The most bytes of a payload in a group.
-const MOST_BYTES: usize = 204;
-
 /// The room for the frames of a group and the gate behind them.
-const ROOM: usize = MOST_PAYLOADS * (MOST_BYTES + 5) + 1;
+const ROOM: usize = MOST_PAYLOADS * (MOST_GROUPED + 5) + 1;
 
 /// Payloads that are to be appended together, at most 64 of at most 204 bytes each. Contracts see the list of them. Its
 /// memory is taken when it is made and none later.
@@ -28,6 +24,7 @@ pub struct Group {
 
 impl Model for Group {
     ghost use Rattle.std.specs.Prelude.{◌≡◌, ◌≤◌, ◌<◌, ◌+◌, ◌*◌, List, [], ◌∷◌, ◌++◌, ℕ, length, map, vec_len, vec_capacity};
+    ghost use Rattle.dali_journal.specs.Limits.{most_payloads, most_grouped};
     ghost use Rattle.dali_journal.specs.GroupText.{payloads};
     ghost use Rattle.dali_journal.specs.Frames.{open_records, AreShort};
 
@@ -39,8 +36,9 @@ impl Model for Group {
         (s.text.items ≡ open_records (payloads s.lens.items s.text.items) ++ 0 ∷ [])
         × (s.lens.items ≡ map length (payloads s.lens.items s.text.items))
         × AreShort (payloads s.lens.items s.text.items)
-        × (length s.lens.items ≤ 64) × (64 ≤ vec_capacity s.lens)
-        × (length s.text.items ≤ 209 * length s.lens.items + 1) × (13377 ≤ vec_capacity s.text) };
+        × (length s.lens.items ≤ most_payloads) × (most_payloads ≤ vec_capacity s.lens)
+        × (length s.text.items ≤ (most_grouped + 5) * length s.lens.items + 1)
+        × (most_payloads * (most_grouped + 5) + 1 ≤ vec_capacity s.text) };
 }
 
 impl Group {
@@ -58,8 +56,8 @@ impl Group {
 
     /// Adds a payload of at most 204 bytes to fewer than 64. Takes no memory.
     pub fn add(&mut self, payload: &[u8])
-        requires room { length self.old < 64 }
-        requires short { length payload.now ≤ 204 }
+        requires room { length self.old < most_payloads }
+        requires short { length payload.now ≤ most_grouped }
         ensures { self.new ≡ self.old ++ payload.now ∷ [] }
     {
         add_record(&mut self.text, payload);
@@ -103,7 +101,7 @@ impl Group {
 /// Puts a record behind a gate 1, and a closed gate, in the place of the closed gate at the end, where there is room.
 fn add_record(text: &mut Vec<u8>, payload: &[u8])
     requires ends { (records : List ℕ) × (text.old.items ≡ records ++ 0 ∷ []) }
-    requires short { length payload.now ≤ 204 }
+    requires short { length payload.now ≤ most_grouped }
     requires room { vec_len text.old + (length payload.now + 5) ≤ vec_capacity text.old }
     ensures items { (records : List ℕ) → text.old.items ≡ records ++ 0 ∷ [] → text.new.items ≡ (records ++ gated 1 payload.now) ++ 0 ∷ [] }
     ensures len { vec_len text.new ≡ vec_len text.old + (length payload.now + 5) }

@@ -1,5 +1,5 @@
 ghost use Rattle.std.specs.Prelude.{◌≡◌, ◌≤◌};
-ghost use Rattle.dali_base.specs.declared.TheConstants.{NEWEST};
+ghost use Rattle.dali_base.specs.Limits.{newest_edition};
 
 use std::marker::Model;
 
@@ -16,21 +16,21 @@ pub struct Journal {
 
 impl Model for Journal {
     ghost use Rattle.std.specs.Prelude.{◌≤◌, ◌+◌, ◌<◌, ◌^◌};
-    ghost use Rattle.dali_base.specs.declared.TheConstants.{NEWEST};
+    ghost use Rattle.dali_base.specs.Limits.{newest_edition};
     ghost use Rattle.dali_journal.specs.JournalAt.{Reached};
 
     ghost Value = { Reached };
 
     ghost view = { λ s. record { edition = s.edition; tail = s.tail; left = s.left; ended = s.ended } };
 
-    ghost invariant = { λ s. (1 ≤ s.edition) × (s.edition ≤ NEWEST) × (16 ≤ s.tail) × (1 ≤ s.left) × (s.tail + s.left < 2 ^ 64) };
+    ghost invariant = { λ s. (1 ≤ s.edition) × (s.edition ≤ newest_edition) × (16 ≤ s.tail) × (1 ≤ s.left) × (s.tail + s.left < 2 ^ 64) };
 }
 
 impl Journal {
     /// The journal's edition, from 1 to the newest.
     pub fn edition(&self) -> u8
         ensures value { result ≡ self.now.edition }
-        ensures bound { (1 ≤ result) × (result ≤ NEWEST) }
+        ensures bound { (1 ≤ result) × (result ≤ newest_edition) }
     {
         self.edition
     }

@@ -12,6 +12,7 @@ mod firm;
 mod formatting;
 mod group;
 mod journal;
+pub mod limits;
 mod next;
 mod open;
 mod raise;
@@ -21,9 +22,10 @@ mod sealed;
 pub use formatting::format;
 pub use group::Group;
 pub use journal::Journal;
+pub use limits::MOST_PAYLOAD;
 pub use open::open_journal;
 pub use refusal::{AppendNo, Damage, DiskFault, OpenNo};
-pub use sealed::{MOST_PAYLOAD, Sealed, frame};
+pub use sealed::{Sealed, frame};
 
 #[cfg(test)]
 mod tests;

@@ -1,4 +1,5 @@
 ghost use Rattle.std.specs.Prelude.{◌≡◌, ◌↔◌, ◌⊎◌, ◌+◌, ◌≤◌, ◌<◌, [], ◌∷◌, ℕ, List, false, length, take, IfOk, OnOk, IfSome, IfNone, IsErrOf, IsTrue};
+ghost use Rattle.dali_base.specs.Limits.{newest_edition};
 ghost use Rattle.dali_outside.specs.Outside.{Rose, Goes, now};
 ghost use Rattle.dali_outside.specs.Stops.{MayLeave, LeavesOnly};
 ghost use Rattle.dali_journal.specs.Holds.{head_text, IsHeader, AreMarks, StandsTo, Holds};
@@ -62,7 +63,7 @@ pub fn open_journal<T: Site>(_alloc: Global, site: &mut T) -> Result<Journal, Op
 fn edition_of(header: &[u8]) -> Option<u8>
     requires { length header.now ≡ 16 }
     ensures some { IfSome result (λ edition. IsHeader edition header.now) }
-    ensures bound { IfSome result (λ edition. (1 ≤ edition) × (edition ≤ 4)) }
+    ensures bound { IfSome result (λ edition. (1 ≤ edition) × (edition ≤ newest_edition)) }
     ensures none { IfNone result ((edition : ℕ) → IsHeader edition header.now → ⊥) }
 {
     let (text, rest) = header.split_at(12);
@@ -81,7 +82,7 @@ fn is_head_text(text: &[u8]) -> bool
 /// The edition that three edition bytes stand for: one more than the bytes other than 0, behind which only 0 stands.
 fn edition_of_marks(a: u8, b: u8, c: u8) -> Option<u8>
     ensures some { IfSome result (λ edition. (j : ℕ) × (edition ≡ j + 1) × AreMarks j (a ∷ b ∷ c ∷ [])) }
-    ensures bound { IfSome result (λ edition. (1 ≤ edition) × (edition ≤ 4)) }
+    ensures bound { IfSome result (λ edition. (1 ≤ edition) × (edition ≤ newest_edition)) }
     ensures none { IfNone result ((j : ℕ) → AreMarks j (a ∷ b ∷ c ∷ []) → ⊥) }
 {
     match (a != 0, b != 0, c != 0) {

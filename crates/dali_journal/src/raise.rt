@@ -1,8 +1,8 @@
 ghost use Rattle.std.specs.Prelude.{◌≡◌, ◌+◌, ◌≤◌, ◌<◌, ◌∷◌, [], ℕ, List, OnOk, OnErr, IsTrue};
-ghost use Rattle.dali_base.specs.declared.TheConstants.{NEWEST};
+ghost use Rattle.dali_base.specs.Limits.{newest_edition};
 ghost use Rattle.dali_outside.specs.Outside.{Rose, Goes, overlay};
 ghost use Rattle.dali_outside.specs.Stops.{LeavesOnly};
-ghost use Rattle.dali_journal.specs.Appends.{AtRest, EachHolds, EitherEdition};
+ghost use Rattle.dali_journal.specs.Appends.{AtRest, EachHolds, EitherEdition, StaysOutside};
 
 use crate::firm::write_firm;
 use crate::journal::Journal;
@@ -15,10 +15,10 @@ impl Journal {
     ///
     /// Where nothing is loose and the device holds a list in this edition, each stop in the call leaves that list in
     /// this edition or the next. After Ok nothing is loose and the edition is the next one. `DiskFault` comes only where
-    /// the count of disk faults rose, and then either edition may stand.
+    /// the count of disk faults rose, and then either edition may stand. At every answer all bytes but that one stay.
     pub fn raise_edition<T: Site>(&mut self, site: &mut T) -> Result<(), DiskFault>
         requires at_site { self.old.tail + self.old.left ≡ (T.sight site.old).size }
-        requires below { self.old.edition < NEWEST }
+        requires below { self.old.edition < newest_edition }
         ensures stops { IsTrue T.tells → (tail : ℕ) (list : List (List ℕ)) → AtRest tail self.old.edition list (T.sight site.old) →
             LeavesOnly (EitherEdition tail self.old.edition list (T.sight site.old).printed) (T.sight site.old) (T.sight site.new) }
         ensures raised { IsTrue T.tells → (tail : ℕ) (list : List (List ℕ)) → AtRest tail self.old.edition list (T.sight site.old) →
@@ -26,6 +26,7 @@ impl Journal {
         ensures images { IsTrue T.tells → (tail : ℕ) (list : List (List ℕ)) → AtRest tail self.old.edition list (T.sight site.old) →
             OnOk result (EachHolds (self.old.edition + 1) list (T.sight site.new)) }
         ensures bytes { IsTrue T.tells → OnOk result ((T.sight site.new).bytes ≡ overlay (T.sight site.old).bytes (11 + self.old.edition) (1 ∷ [])) }
+        ensures outside { IsTrue T.tells → StaysOutside (11 + self.old.edition) 1 (T.sight site.old) (T.sight site.new) }
         ensures edition { OnOk result (self.new ≡ record self.old { edition = self.old.edition + 1 }) }
         ensures same { OnErr result (self.new ≡ self.old) }
         ensures silent { IsTrue T.tells → (T.sight site.new).printed ≡ (T.sight site.old).printed }

@@ -1,13 +1,11 @@
 ghost use Rattle.std.specs.Prelude.{◌≡◌, ◌≤◌, ◌<◌, [], ◌∷◌, length, IfOk, OnSome, slice_get};
 ghost use Rattle.std.specs.Option.{option_copied};
+ghost use Rattle.dali_journal.specs.Limits.{most_payload};
 ghost use Rattle.dali_journal.specs.Frames.{frame_of, payload_of, AreFrames, AreShort};
 
 use dali_base::{OutOfMemory, Text};
 use std::alloc::Global;
 use std::marker::Model;
-
-/// The most bytes of a payload.
-pub const MOST_PAYLOAD: usize = 536_870_912;
 
 /// A frame, ready to be appended: the length of a payload of at most 536,870,912 bytes in four bytes, the payload, and a
 /// closed gate. Contracts see the list of its bytes.
@@ -19,13 +17,13 @@ pub struct Sealed {
 impl Model for Sealed {
     ghost use Rattle.std.specs.Prelude.{◌≡◌, ◌+◌, ◌≤◌, List, ℕ, length};
     ghost use Rattle.dali_journal.specs.Frames.{frame_of, payload_of};
-    ghost use Rattle.dali_journal.specs.declared.sealed.TheConstants.{MOST_PAYLOAD};
+    ghost use Rattle.dali_journal.specs.Limits.{most_payload};
 
     ghost Value = { List ℕ };
 
     ghost view = { λ s. s.bytes };
 
-    ghost invariant = { λ s. (s.bytes ≡ frame_of (payload_of s.bytes)) × (length s.bytes ≤ MOST_PAYLOAD + 5) };
+    ghost invariant = { λ s. (s.bytes ≡ frame_of (payload_of s.bytes)) × (length s.bytes ≤ most_payload + 5) };
 }
 
 impl Sealed {
@@ -57,7 +55,7 @@ impl Sealed {
 /// The frame of a payload of at most 536,870,912 bytes, as `specs/Frames.antt` defines it. The only error is want of
 /// memory.
 pub fn frame(alloc: Global, payload: &[u8]) -> Result<Sealed, OutOfMemory>
-    requires { length payload.now ≤ 536870912 }
+    requires { length payload.now ≤ most_payload }
     ensures value { IfOk result (λ sealed. sealed ≡ frame_of payload.now) }
     ensures payload { IfOk result (λ sealed. payload_of sealed ≡ payload.now) }
 {
@@ -66,7 +64,7 @@ pub fn frame(alloc: Global, payload: &[u8]) -> Result<Sealed, OutOfMemory>
 }
 
 fn frame_bytes(alloc: Global, payload: &[u8]) -> Result<Text, OutOfMemory>
-    requires { length payload.now ≤ 536870912 }
+    requires { length payload.now ≤ most_payload }
     ensures { IfOk result (λ bytes. bytes ≡ frame_of payload.now) }
 {
     let mut bytes = Text::from_vec(Vec::with_capacity(alloc, payload.len() + 5)?);

@@ -1,5 +1,6 @@
 use Rattle.std.specs.Prelude.{◌-◌, ◌≤◌, ◌^◌}
 use Rattle.std.specs.List.{All}
+use Rattle.dali_base.specs.Limits.{most_multiplier}
 use Rattle.dali_problem.specs.Limits.{Within}
 use Rattle.dali_lagrange.specs.declared.kept.Kept.TheInside.{Inside}
 use Rattle.dali_lagrange.specs.KeptSum.{KeptSum}
@@ -15,6 +16,6 @@ view_of a = record {
 
 -- every sum leaves room for one more
 pub record IsBounded (a : Inside) : Type 0 where
-  pub multipliers : All (λ m. m ≤ 2 ^ 44) a.multipliers.items
+  pub multipliers : All (λ m. m ≤ most_multiplier) a.multipliers.items
   pub reduced : All (Within (2 ^ 103)) a.reduced.items
   pub total : Within (2 ^ 117 - 1) a.total

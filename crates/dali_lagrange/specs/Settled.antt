@@ -1,5 +1,6 @@
-use Rattle.std.specs.Prelude.{ℕ, ◌+◌, ◌^◌, ◌==◌, ℤ, pos, ◌-ℤ◌, ◌*ℤ◌, Bool, IsTrue, ◌&&◌, ◌||◌, not, List, length, if◌then◌else◌}
+use Rattle.std.specs.Prelude.{ℕ, ◌+◌, ◌==◌, ℤ, pos, ◌-ℤ◌, ◌*ℤ◌, Bool, IsTrue, ◌&&◌, ◌||◌, not, List, length, if◌then◌else◌}
 use Rattle.std.specs.Int.Signed.{lt_z, le_z}
+use Rattle.dali_base.specs.Limits.{most_multiplier}
 use Rattle.dali_problem.specs.declared.mark.Mark.{Mark}
 use Rattle.dali_problem.specs.Clearing.{Clearing}
 use Rattle.dali_problem.specs.Rules.{all_below}
@@ -13,9 +14,9 @@ changed lam l x k = if k == l then x else lam k
 abbrev pub is_gain : ℤ → ℤ → Bool
 is_gain old new = lt_z new old && le_z old (pos 1024 *ℤ (old -ℤ new))
 
--- no multiplier of line l, from 0 to 2^44, gives a gain
+-- no multiplier of line l, from 0 to the greatest, gives a gain
 unfoldable pub is_still_at : Clearing → List Mark → (ℕ → ℕ) → ℕ → Bool
-is_still_at p f lam l = all_below (λ x. not (is_gain (sum_of p f lam) (sum_of p f (changed lam l x)))) (2 ^ 44 + 1)
+is_still_at p f lam l = all_below (λ x. not (is_gain (sum_of p f lam) (sum_of p f (changed lam l x)))) (most_multiplier + 1)
 
 -- the Sum isn't above the one with all multipliers 0, and it is below 4,096 or no multiplier of any line gives a gain
 unfoldable pub is_settled : Clearing → List Mark → (ℕ → ℕ) → Bool

@@ -1,4 +1,5 @@
-use Rattle.std.specs.Prelude.{ℕ, ◌<◌, ◌≤◌, ◌^◌, ℤ, pos, ◌-ℤ◌, ◌*ℤ◌, ◌≤ℤ◌, ◌<ℤ◌, List, length}
+use Rattle.std.specs.Prelude.{ℕ, ◌<◌, ◌≤◌, ℤ, pos, ◌-ℤ◌, ◌*ℤ◌, ◌≤ℤ◌, ◌<ℤ◌, List, length}
+use Rattle.dali_base.specs.Limits.{most_multiplier}
 use Rattle.dali_problem.specs.declared.mark.Mark.{Mark}
 use Rattle.dali_problem.specs.Clearing.{Clearing}
 use Rattle.dali_lagrange.specs.Best.{sum_with}
@@ -10,7 +11,7 @@ pub record IsGain (old new : ℤ) : Type 0 where
 
 -- with the Sum at old, no number on line l gives a gain
 pub record IsStillAt (p : Clearing) (f : List Mark) (point : List ℕ) (old : ℤ) (l : ℕ) : Type 0 where
-  pub no_gain : (x : ℕ) → x ≤ 2 ^ 44 → ¬ (IsGain old (sum_with p f point l x))
+  pub no_gain : (x : ℕ) → x ≤ most_multiplier → ¬ (IsGain old (sum_with p f point l x))
 
 -- with the Sum at old, no number on any line gives a gain
 pub record IsStill (p : Clearing) (f : List Mark) (point : List ℕ) (old : ℤ) : Type 0 where

@@ -1,5 +1,6 @@
 use Rattle.std.specs.Prelude.{ℕ, ◌<◌, ◌≤◌, ◌^◌, ◌==◌, ℤ, pos, ◌+ℤ◌, ◌-ℤ◌, ◌*ℤ◌, List, length, slice_index_or}
 use Rattle.std.specs.List.{All}
+use Rattle.dali_base.specs.Limits.{most_items}
 use Rattle.dali_problem.specs.declared.columns.Touch.{Touch}
 use Rattle.dali_problem.specs.declared.mark.Mark.{Mark}
 use Rattle.dali_problem.specs.Limits.{Within}
@@ -7,9 +8,9 @@ use Rattle.dali_problem.specs.Partial.{mark}
 use Rattle.dali_problem.specs.Sums.{pick}
 use Rattle.dali_lagrange.specs.Bound.{counted}
 
--- up to 1,024 touches of places below n
+-- touches of places below n, no more than items
 pub record AreTouches (n : ℕ) (touches : List Touch) : Type 0 where
-  pub size : length touches ≤ 1024
+  pub size : length touches ≤ most_items
   pub in_range : All (λ t. t.place < n) touches
   pub bounded : All (λ t. Within (2 ^ 58) t.amount) touches
 

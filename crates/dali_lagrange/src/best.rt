@@ -1,14 +1,13 @@
 ghost use Rattle.std.specs.Prelude.{◌≡◌, ◌+◌, ◌^◌, ◌<◌, ◌↔◌, ◌≤ℤ◌, length, IsTrue};
+ghost use Rattle.dali_base.specs.Limits.{most_multiplier};
 ghost use Rattle.dali_problem.specs.Kept.{IsOf};
 ghost use Rattle.dali_lagrange.specs.Best.{sum_with, IsBestAt};
 
 use crate::point::Point;
 use crate::probe::Probe;
 use crate::total::sum_at;
+use dali_base::limits::MOST_MULTIPLIER;
 use dali_problem::{Partial, Problem};
-
-/// The greatest multiplier.
-pub(crate) const GREATEST_MULTIPLIER: u64 = 1 << 44;
 
 /// The least of the multipliers from 0 to 2^44 that give the smallest Sum, with those of the other lines kept, as
 /// `specs/Best.antt` defines it.
@@ -19,7 +18,7 @@ pub fn best_at(problem: &Problem, partial: &Partial, point: &Point, line: u32) -
     ensures { IsBestAt problem.now partial.now.marks point.now line result }
 {
     let mut low = 0;
-    let mut high = GREATEST_MULTIPLIER;
+    let mut high = MOST_MULTIPLIER;
     'search: while low < high {
         let middle = low + (high - low) / 2;
         if is_rising(problem, partial, point, line, middle) {
@@ -35,7 +34,7 @@ pub fn best_at(problem: &Problem, partial: &Partial, point: &Point, line: u32) -
 fn is_rising(problem: &Problem, partial: &Partial, point: &Point, line: u32, at: u64) -> bool
     requires partial { IsOf problem.now partial.now }
     requires point { length point.now ≡ length problem.now.lines }
-    requires at { at < 2 ^ 44 }
+    requires at { at < most_multiplier }
     ensures { IsTrue result
         ↔ (sum_with problem.now partial.now.marks point.now line at
         ≤ℤ sum_with problem.now partial.now.marks point.now line (at + 1)) }

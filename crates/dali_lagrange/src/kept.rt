@@ -1,5 +1,6 @@
 ghost use Rattle.std.specs.Prelude.{◌≡◌, ℕ, ◌-◌, ◌^◌, ◌<◌, ◌≤◌, ◌-ℤ◌, length, replicate, slice_index, slice_set, IfOk, IsTrue, if◌then◌else◌};
 ghost use Rattle.std.specs.List.{All};
+ghost use Rattle.dali_base.specs.Limits.{most_multiplier};
 ghost use Rattle.dali_problem.specs.Clearing.{Clearing};
 ghost use Rattle.dali_problem.specs.Kept.{IsOf, AllUndecided};
 ghost use Rattle.dali_problem.specs.Limits.{Within};
@@ -131,8 +132,8 @@ impl Kept {
     pub(crate) fn rise(&self, problem: &Problem, line: u32, from: u64, to: u64) -> i128
         requires of { IsSumOf problem.now self.now }
         requires line { line < length problem.now.lines }
-        requires from { from ≤ 2 ^ 44 }
-        requires to { to ≤ 2 ^ 44 }
+        requires from { from ≤ most_multiplier }
+        requires to { to ≤ most_multiplier }
         ensures exact { result
             ≡ sum_with problem.now self.now.marks self.now.multipliers line to
             -ℤ sum_with problem.now self.now.marks self.now.multipliers line from }
@@ -156,7 +157,7 @@ impl Kept {
     pub fn set(&mut self, problem: &Problem, line: u32, to: u64)
         requires of { IsSumOf problem.now self.old }
         requires line { line < length problem.now.lines }
-        requires bounded { to ≤ 2 ^ 44 }
+        requires bounded { to ≤ most_multiplier }
         ensures marks { self.new.marks ≡ self.old.marks }
         ensures multipliers { self.new.multipliers ≡ slice_set self.old.multipliers line to }
         ensures of { IsSumOf problem.now self.new }
@@ -169,7 +170,7 @@ impl Kept {
     pub(crate) fn set_with_rise(&mut self, problem: &Problem, line: u32, to: u64, rise: &i128)
         requires of { IsSumOf problem.now self.old }
         requires line { line < length problem.now.lines }
-        requires bounded { to ≤ 2 ^ 44 }
+        requires bounded { to ≤ most_multiplier }
         requires rise { rise.now
             ≡ sum_with problem.now self.old.marks self.old.multipliers line to
             -ℤ sum_with problem.now self.old.marks self.old.multipliers line (slice_index self.old.multipliers line) }
@@ -210,7 +211,7 @@ impl Kept {
     fn move_to(&mut self, problem: &Problem, line: u32, to: u64)
         requires of { IsSumOf problem.now self.old }
         requires line { line < length problem.now.lines }
-        requires bounded { to ≤ 2 ^ 44 }
+        requires bounded { to ≤ most_multiplier }
         ensures marks { self.new.marks ≡ self.old.marks }
         ensures multipliers { self.new.multipliers ≡ slice_set self.old.multipliers line to }
         ensures of { IsSumOf problem.now self.new }
@@ -232,7 +233,7 @@ impl Kept {
     pub fn multiplier(&self, line: u32) -> u64
         requires { line < length self.now.multipliers }
         ensures value { result ≡ slice_index self.now.multipliers line }
-        ensures bounded { result ≤ 2 ^ 44 }
+        ensures bounded { result ≤ most_multiplier }
     {
         self.multipliers[line as usize]
     }

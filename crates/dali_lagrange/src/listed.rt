@@ -1,5 +1,6 @@
 ghost use Rattle.std.specs.Prelude.{◌≡◌, ℕ, ◌+◌, ◌^◌, ◌<◌, ◌≤◌, length, slice_index, IfOk, IsTrue};
 ghost use Rattle.std.specs.List.{All, AllPairs};
+ghost use Rattle.dali_base.specs.Limits.{most_multiplier};
 ghost use Rattle.dali_tree.specs.Fits.{lam_fits};
 ghost use Rattle.dali_lagrange.specs.Listed.{IsNext};
 ghost use Rattle.dali_lagrange.specs.Multipliers.{multiplier};
@@ -14,10 +15,10 @@ use std::alloc::Global;
 /// right for the line behind it.
 pub(crate) fn next_multiplier(lam: &[(u32, u64)], next: &mut usize, line: u32) -> u64
     requires rising { AllPairs (λ (a b : ℕ × ℕ). a.0 < b.0) lam.now }
-    requires bounded { All (λ (m : ℕ × ℕ). m.1 ≤ 2 ^ 44) lam.now }
+    requires bounded { All (λ (m : ℕ × ℕ). m.1 ≤ most_multiplier) lam.now }
     requires next { IsNext lam.now next.old line }
     ensures value { result ≡ multiplier lam.now line }
-    ensures bounded { result ≤ 2 ^ 44 }
+    ensures bounded { result ≤ most_multiplier }
     ensures next { IsNext lam.now next.new (line + 1) }
 {
     if *next < lam.len() && lam[*next].0 == line {

@@ -1,6 +1,7 @@
 ghost use Rattle.std.specs.Prelude.{◌≡◌, ℕ, ◌^◌, ◌<◌, ◌≤◌, length, slice_index, slice_set, IfOk};
 ghost use Rattle.std.specs.Prelude.{replicate};
 ghost use Rattle.std.specs.List.{All};
+ghost use Rattle.dali_base.specs.Limits.{most_multiplier};
 ghost use Rattle.dali_lagrange.specs.Multipliers.{AreMultipliers, multiplier};
 
 use dali_base::OutOfMemory;
@@ -18,12 +19,13 @@ pub struct Point {
 impl Model for Point {
     ghost use Rattle.std.specs.Prelude.{List, ℕ, ◌≤◌, ◌^◌};
     ghost use Rattle.std.specs.List.{All};
+    ghost use Rattle.dali_base.specs.Limits.{most_multiplier};
 
     ghost Value = { List ℕ };
 
     ghost view = { λ s. s.multipliers.items };
 
-    ghost invariant = { λ s. All (λ m. m ≤ 2 ^ 44) s.multipliers.items };
+    ghost invariant = { λ s. All (λ m. m ≤ most_multiplier) s.multipliers.items };
 }
 
 impl Point {
@@ -48,7 +50,7 @@ impl Point {
     /// The number of lines.
     pub(crate) fn len(&self) -> usize
         ensures count { result ≡ length self.now }
-        ensures bounded { All (λ m. m ≤ 2 ^ 44) self.now }
+        ensures bounded { All (λ m. m ≤ most_multiplier) self.now }
     {
         self.multipliers.len()
     }
@@ -57,7 +59,7 @@ impl Point {
     pub fn get(&self, line: u32) -> u64
         requires { line < length self.now }
         ensures value { result ≡ slice_index self.now line }
-        ensures bounded { result ≤ 2 ^ 44 }
+        ensures bounded { result ≤ most_multiplier }
     {
         self.multipliers[line as usize]
     }
@@ -65,7 +67,7 @@ impl Point {
     /// Gives a line this multiplier, at most 2^44. No other line changes.
     pub fn set(&mut self, line: u32, to: u64)
         requires line { line < length self.old }
-        requires bounded { to ≤ 2 ^ 44 }
+        requires bounded { to ≤ most_multiplier }
         ensures { self.new ≡ slice_set self.old line to }
     {
         self.multipliers[line as usize] = to;
@@ -76,7 +78,7 @@ impl Point {
 fn load(lam: &[(u32, u64)], multipliers: &mut [u64])
     requires { AreMultipliers (length multipliers.old) lam.now }
     ensures multipliers { (l : ℕ) → l < length multipliers.new → slice_index multipliers.new l ≡ multiplier lam.now l }
-    ensures bounded { All (λ m. m ≤ 2 ^ 44) multipliers.new }
+    ensures bounded { All (λ m. m ≤ most_multiplier) multipliers.new }
 {
     multipliers.fill(0);
     let mut left = lam.len();

@@ -1,5 +1,6 @@
 ghost use Rattle.std.specs.Prelude.{◌≡◌, ◌^◌, ◌<◌, ◌≤◌, length, slice_index, slice_set};
 ghost use Rattle.std.specs.List.{All};
+ghost use Rattle.dali_base.specs.Limits.{most_multiplier};
 
 use crate::point::Point;
 use std::marker::Model;
@@ -15,19 +16,20 @@ pub(crate) struct Probe<'a> {
 
 impl<'a> Model for Probe<'a> {
     ghost use Rattle.std.specs.Prelude.{List, ℕ, ◌≤◌, ◌^◌, slice_set};
+    ghost use Rattle.dali_base.specs.Limits.{most_multiplier};
 
     ghost Value = { List ℕ };
 
     ghost view = { λ s. slice_set s.point.now s.line s.to };
 
-    ghost invariant = { λ s. s.to ≤ 2 ^ 44 };
+    ghost invariant = { λ s. s.to ≤ most_multiplier };
 }
 
 impl<'a> Probe<'a> {
     /// The point as it is.
     pub(crate) fn of(point: &'a Point) -> Probe<'a>
         ensures same { result ≡ point.now }
-        ensures bounded { All (λ m. m ≤ 2 ^ 44) point.now }
+        ensures bounded { All (λ m. m ≤ most_multiplier) point.now }
     {
         Probe {
             point,
@@ -38,7 +40,7 @@ impl<'a> Probe<'a> {
 
     /// The point with this multiplier on this line.
     pub(crate) fn with(point: &'a Point, line: u32, to: u64) -> Probe<'a>
-        requires { to ≤ 2 ^ 44 }
+        requires { to ≤ most_multiplier }
         ensures { result ≡ slice_set point.now line to }
     {
         Probe {
@@ -52,7 +54,7 @@ impl<'a> Probe<'a> {
     pub(crate) fn get(&self, line: u32) -> u64
         requires { line < length self.now }
         ensures value { result ≡ slice_index self.now line }
-        ensures bounded { result ≤ 2 ^ 44 }
+        ensures bounded { result ≤ most_multiplier }
     {
         if line as usize == self.line {
             self.to

@@ -1,4 +1,5 @@
 ghost use Rattle.std.specs.Prelude.{◌≡◌, ◌*◌, ◌^◌, ◌≤◌, ℤ, pos, ◌+ℤ◌, ◌-ℤ◌, ◌*ℤ◌};
+ghost use Rattle.dali_base.specs.Limits.{most_multiplier};
 ghost use Rattle.dali_problem.specs.Limits.{Within};
 ghost use Rattle.dali_problem.specs.Sums.{pick};
 ghost use Rattle.dali_lagrange.specs.Bound.{counted};
@@ -19,7 +20,7 @@ fn weighted(factor: u64, effect: &Effect) -> i128
 /// A multiplier, or the scale, times a balance or a value.
 #[tactic(auto, using(std::proofs::lemmas::Int::ints))]
 pub(crate) fn scaled(factor: u64, amount: u64) -> i128
-    requires factor { factor ≤ 2 ^ 44 }
+    requires factor { factor ≤ most_multiplier }
     requires amount { amount ≤ 2 ^ 60 }
     ensures { result ≡ pos factor *ℤ pos amount }
 {
@@ -49,7 +50,7 @@ fn minus(total: &mut i128, z: &i128)
 /// Adds a multiplier times a balance.
 pub(crate) fn add_scaled(total: &mut i128, factor: u64, amount: u64)
     requires total { Within (2 ^ 125) total.old }
-    requires factor { factor ≤ 2 ^ 44 }
+    requires factor { factor ≤ most_multiplier }
     requires amount { amount ≤ 2 ^ 60 }
     ensures { total.new ≡ total.old +ℤ pos factor *ℤ pos amount }
 {
@@ -60,7 +61,7 @@ pub(crate) fn add_scaled(total: &mut i128, factor: u64, amount: u64)
 /// Adds a multiplier times an effect's amount.
 pub(crate) fn add_weighted(total: &mut i128, factor: u64, effect: &Effect)
     requires total { Within (2 ^ 125) total.old }
-    requires factor { factor ≤ 2 ^ 44 }
+    requires factor { factor ≤ most_multiplier }
     requires amount { Within (8 * 10 ^ 15) effect.now.amount }
     ensures { total.new ≡ total.old +ℤ pos factor *ℤ effect.now.amount }
 {
@@ -125,7 +126,7 @@ fn rise_of(by: &i64, amount: u64) -> i128
 /// Adds a multiplier's rise times a balance.
 pub(crate) fn add_balance(total: &mut i128, by: &i64, amount: u64)
     requires total { Within (2 ^ 124) total.old }
-    requires by { Within (2 ^ 44) by.now }
+    requires by { Within most_multiplier by.now }
     requires amount { amount ≤ 2 ^ 60 }
     ensures { total.new ≡ total.old +ℤ by.now *ℤ pos amount }
 {

@@ -1,12 +1,14 @@
 ghost use Rattle.std.specs.Prelude.{◌≡◌, ℕ, ◌+◌, ◌-◌, ◌^◌, ◌<◌, ◌≤◌, ◌↔◌, ◌+ℤ◌, ◌-ℤ◌, ◌≤ℤ◌, length, slice_index, IsTrue, IsFalse, IfSome, IfNone};
+ghost use Rattle.dali_base.specs.Limits.{most_multiplier};
 ghost use Rattle.dali_problem.specs.Limits.{Within};
 ghost use Rattle.dali_lagrange.specs.Best.{sum_with, IsBestAt, FallsTo, RisesFrom, IsBracket};
 ghost use Rattle.dali_lagrange.specs.KeptSum.{IsSumOf};
 ghost use Rattle.dali_lagrange.specs.Settled.{is_settled};
 ghost use Rattle.dali_lagrange.specs.Still.{IsGain, IsStillAt, IsStill};
 
-use crate::best::{GREATEST_MULTIPLIER, is_at_most};
+use crate::best::is_at_most;
 use crate::kept::Kept;
+use dali_base::limits::MOST_MULTIPLIER;
 use dali_problem::Problem;
 
 /// A Sum below this isn't settled further.
@@ -44,7 +46,7 @@ impl Kept {
     {
         let all = Bracket {
             low: 0,
-            high: GREATEST_MULTIPLIER,
+            high: MOST_MULTIPLIER,
         };
         self.best_within(problem, line, all)
     }
@@ -90,12 +92,12 @@ impl Kept {
     fn falls_from(&self, problem: &Problem, line: u32, at: u64) -> bool
         requires of { IsSumOf problem.now self.now }
         requires line { line < length problem.now.lines }
-        requires at { at ≤ 2 ^ 44 }
-        ensures within { IsTrue result → at < 2 ^ 44 }
+        requires at { at ≤ most_multiplier }
+        ensures within { IsTrue result → at < most_multiplier }
         ensures falls { IsTrue result → FallsTo problem.now self.now.marks self.now.multipliers line (at + 1) }
         ensures rises { IsFalse result → RisesFrom problem.now self.now.marks self.now.multipliers line at }
     {
-        if at >= GREATEST_MULTIPLIER {
+        if at >= MOST_MULTIPLIER {
             return false;
         }
         !self.is_rising(problem, line, at)
@@ -105,7 +107,7 @@ impl Kept {
     fn rises_to(&self, problem: &Problem, line: u32, at: u64) -> bool
         requires of { IsSumOf problem.now self.now }
         requires line { line < length problem.now.lines }
-        requires at { at ≤ 2 ^ 44 }
+        requires at { at ≤ most_multiplier }
         ensures within { IsTrue result → 0 < at }
         ensures rises { IsTrue result → RisesFrom problem.now self.now.marks self.now.multipliers line (at - 1) }
         ensures falls { IsFalse result → FallsTo problem.now self.now.marks self.now.multipliers line at }
@@ -120,13 +122,13 @@ impl Kept {
     fn bracket_above(&self, problem: &Problem, line: u32, from: u64) -> Bracket
         requires of { IsSumOf problem.now self.now }
         requires line { line < length problem.now.lines }
-        requires within { from ≤ 2 ^ 44 }
+        requires within { from ≤ most_multiplier }
         requires falls { FallsTo problem.now self.now.marks self.now.multipliers line from }
         ensures { IsBracket problem.now self.now.marks self.now.multipliers line result.low result.high }
     {
         let mut low = from;
         let mut reach = NEAR_RANGE;
-        'widen: while reach < GREATEST_MULTIPLIER - low {
+        'widen: while reach < MOST_MULTIPLIER - low {
             let end = low + reach;
             if self.is_rising(problem, line, end) {
                 return Bracket { low, high: end };
@@ -136,7 +138,7 @@ impl Kept {
         }
         Bracket {
             low,
-            high: GREATEST_MULTIPLIER,
+            high: MOST_MULTIPLIER,
         }
     }
 
@@ -144,7 +146,7 @@ impl Kept {
     fn bracket_below(&self, problem: &Problem, line: u32, from: u64) -> Bracket
         requires of { IsSumOf problem.now self.now }
         requires line { line < length problem.now.lines }
-        requires within { from ≤ 2 ^ 44 }
+        requires within { from ≤ most_multiplier }
         requires rises { RisesFrom problem.now self.now.marks self.now.multipliers line from }
         ensures { IsBracket problem.now self.now.marks self.now.multipliers line result.low result.high }
     {
@@ -165,7 +167,7 @@ impl Kept {
     fn is_rising(&self, problem: &Problem, line: u32, at: u64) -> bool
         requires of { IsSumOf problem.now self.now }
         requires line { line < length problem.now.lines }
-        requires at { at < 2 ^ 44 }
+        requires at { at < most_multiplier }
         ensures { IsTrue result
             ↔ (sum_with problem.now self.now.marks self.now.multipliers line at
             ≤ℤ sum_with problem.now self.now.marks self.now.multipliers line (at + 1)) }
@@ -178,7 +180,7 @@ impl Kept {
     pub(crate) fn gain_at(&self, problem: &Problem, line: u32) -> Option<Gain>
         requires of { IsSumOf problem.now self.now }
         requires line { line < length problem.now.lines }
-        ensures some { IfSome result (λ gain. gain.to ≤ 2 ^ 44) }
+        ensures some { IfSome result (λ gain. gain.to ≤ most_multiplier) }
         ensures rise { IfSome result (λ gain. gain.rise
             ≡ sum_with problem.now self.now.marks self.now.multipliers line gain.to
             -ℤ sum_with problem.now self.now.marks self.now.multipliers line (slice_index self.now.multipliers line)) }

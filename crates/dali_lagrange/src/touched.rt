@@ -1,5 +1,6 @@
 ghost use Rattle.std.specs.Prelude.{◌≡◌, ℕ, ◌^◌, ◌<◌, ◌≤◌, pos, ◌+ℤ◌, ◌-ℤ◌, ◌*ℤ◌, length};
 ghost use Rattle.std.specs.List.{All};
+ghost use Rattle.dali_base.specs.Limits.{most_multiplier};
 ghost use Rattle.dali_problem.specs.Limits.{Within};
 ghost use Rattle.dali_problem.specs.Sums.{sum_over};
 ghost use Rattle.dali_lagrange.specs.Bound.{counted};
@@ -11,10 +12,10 @@ use dali_problem::{Mark, Touch};
 /// How much a multiplier rises from one number to another.
 #[tactic(auto, using(std::proofs::lemmas::Int::ints))]
 pub(crate) fn offset(from: u64, to: u64) -> i64
-    requires from { from ≤ 2 ^ 44 }
-    requires to { to ≤ 2 ^ 44 }
+    requires from { from ≤ most_multiplier }
+    requires to { to ≤ most_multiplier }
     ensures exact { result ≡ pos to -ℤ pos from }
-    ensures bounded { Within (2 ^ 44) result }
+    ensures bounded { Within most_multiplier result }
 {
     to as i64 - from as i64
 }
@@ -30,7 +31,7 @@ fn times(by: &i64, amount: &i64) -> i128
 /// A reduced value after a multiplier rises by so much, on a line that its place changes by this amount.
 fn shift_value(value: &i128, by: &i64, amount: &i64) -> i128
     requires value { Within (2 ^ 114) value.now }
-    requires by { Within (2 ^ 44) by.now }
+    requires by { Within most_multiplier by.now }
     requires amount { Within (2 ^ 58) amount.now }
     ensures { result ≡ shifted value.now by.now amount.now }
 {
@@ -44,8 +45,8 @@ fn shift_value(value: &i128, by: &i64, amount: &i64) -> i128
 fn add_rise(total: &mut i128, mark: Mark, value: &i128, from: &i64, to: &i64, amount: &i64)
     requires total { Within (2 ^ 120) total.old }
     requires value { Within (2 ^ 103) value.now }
-    requires from { Within (2 ^ 44) from.now }
-    requires to { Within (2 ^ 44) to.now }
+    requires from { Within most_multiplier from.now }
+    requires to { Within most_multiplier to.now }
     requires amount { Within (2 ^ 58) amount.now }
     ensures { total.new
         ≡ total.old
@@ -73,8 +74,8 @@ pub(crate) fn add_rises(
     requires touches { AreTouches (length marks.now) touches.now }
     requires places { length reduced.now ≡ length marks.now }
     requires reduced { All (Within (2 ^ 103)) reduced.now }
-    requires from { Within (2 ^ 44) from.now }
-    requires to { Within (2 ^ 44) to.now }
+    requires from { Within most_multiplier from.now }
+    requires to { Within most_multiplier to.now }
     ensures exact { total.new ≡ total.old +ℤ sum_over (touch_rise marks.now reduced.now from.now to.now) touches.now }
     ensures bounded { Within (2 ^ 116) total.new }
 {
@@ -88,7 +89,7 @@ pub(crate) fn add_rises(
 pub(crate) fn shift_touched(reduced: &mut [i128], touches: &[Touch], by: &i64)
     requires touches { AreTouches (length reduced.old) touches.now }
     requires reduced { All (Within (2 ^ 103)) reduced.old }
-    requires by { Within (2 ^ 44) by.now }
+    requires by { Within most_multiplier by.now }
     ensures { (j : ℕ) → j < length reduced.new → reduced_in reduced.new j
         ≡ shifted (reduced_in reduced.old j) by.now (sum_over (at_place j) touches.now) }
 {

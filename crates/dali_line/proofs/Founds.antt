@@ -1,9 +1,10 @@
-use Rattle.std.proofs.Common.{◌≡◌, ◌∙◌, ℕ, Bool, true, List, inr, sym, subst, arith}
-use Rattle.std.specs.Prelude.{IfErr, Ok, Err}
+use Rattle.std.proofs.Common.{◌≡◌, ◌≤◌, ◌∙◌, ℕ, Bool, true, List, length, inr, sym, subst, arith}
+use Rattle.std.proofs.lemmas.Bool.Decides.{nat_tests}
+use Rattle.std.specs.Prelude.{IfErr, Ok, Err, nat_le}
 use Rattle.std.specs.declared.result.Result.{Result}
 use Rattle.dali_base.proofs.Spelled.{and_parts}
 use Rattle.dali_line.specs.Commands.{is_command}
-use Rattle.dali_line.specs.Line.{is_line}
+use Rattle.dali_line.specs.Line.{is_line, MOST_OF_COMMAND}
 use Rattle.dali_line.specs.Lines.{Reach, FirstIsLong, Stops, MeetsLine}
 use Rattle.dali_line.specs.Open.{Open}
 use Rattle.dali_line.specs.Scan.{Finds, AtEnd, IsEnded, EndsWith, CutsOff}
@@ -11,7 +12,7 @@ use Rattle.dali_line.specs.declared.scan.Found.{Found}
 use Rattle.dali_line.specs.declared.scan.Found.TheVariants.{Ended, Last, Nothing}
 use Rattle.dali_line.specs.declared.line_end.LineEnd.{LineEnd}
 use Rattle.dali_line.specs.declared.line_end.LineEnd.TheVariants.{ReadFault, LongLine, LongFile, OutOfMemory}
-use Rattle.dali_line.proofs.Scanning.{all_commands, wants_memory}
+use Rattle.dali_line.proofs.Scanning.{all_commands, wanted_last}
 
 pub if_err : {X E : Type 0} (r : Result X E) (P Q : E → Type 0) → IfErr r P → ((e : E) → P e → Q e) → IfErr r Q
 if_err (Ok x) P Q is more = tt
@@ -20,6 +21,12 @@ if_err (Err e) P Q is more = more e is
 -- a line can be kept only where it is a command
 pub line_begins : (bytes : List ℕ) → is_line bytes ≡ true → is_command bytes ≡ true
 line_begins bytes told = (and_parts _ _ (and_parts _ _ told).0).0
+
+pub line_short : (bytes : List ℕ) → is_line bytes ≡ true → length bytes ≤ MOST_OF_COMMAND
+line_short bytes told =
+    let test : nat_le (length bytes) MOST_OF_COMMAND ≡ true =
+    (and_parts (is_command bytes) (nat_le (length bytes) MOST_OF_COMMAND) (and_parts _ _ told).0).1 in
+    grind (arith, nat_tests)
 
 pub ended_found : (told : Bool) (old now : Reach) (bytes : List ℕ) → MeetsLine told bytes old now → (found : Found) → IsEnded bytes found → Finds told old now found
 ended_found told old now bytes meets (Ended line) is = subst (λ l. MeetsLine told l old now) (sym is) meets
@@ -54,4 +61,4 @@ module _ (told : Bool) (old now : Reach) (line : Open) (at : AtEnd told old line
     },
   )
   last_stops number LongFile is = absurd is
-  last_stops number OutOfMemory is = wants_memory told old now line at.midway now.pending
+  last_stops number OutOfMemory is = wanted_last told is.0 old now is.1 (last_found (Last is.0) is.2)

@@ -1,9 +1,10 @@
-use Rattle.std.proofs.Common.{◌≡◌, ◌≢◌, ◌∙◌, ℕ, zero, suc, take, get_or, ◌+◌, ◌<◌, ◌≤◌, Bool, true, false, cond, List, [], ◌∷◌, ◌++◌, length, refl, sym, ap, subst, arith, append_assoc, append-nil}
+use Rattle.std.proofs.Common.{◌≡◌, ◌≢◌, ◌∙◌, inl, inr, ℕ, zero, suc, take, get_or, ◌+◌, ◌<◌, ◌≤◌, Bool, true, false, cond, List, [], ◌∷◌, ◌++◌, length, refl, sym, ap, subst, arith, append_assoc, append-nil}
 use Rattle.std.proofs.lemmas.List.{length-append}
 use Rattle.std.specs.Prelude.{IsTrue}
 use Rattle.std.specs.Str.Lines.{strip_carriage_return}
 use Rattle.dali_line.specs.Commands.{is_command, commands, ended_commands}
-use Rattle.dali_line.specs.Lines.{Reach, FirstIsLong, IsLong, BreaksOff, MeetsLine, WantsMemory, MOST_OF_FILE}
+use Rattle.dali_line.specs.Lines.{Reach, FirstIsLong, IsLong, BreaksOff, MeetsLine, MeetsLast, WantsMemory, MOST_OF_FILE}
+use Rattle.dali_line.specs.Line.{MOST_OF_COMMAND}
 use Rattle.dali_line.specs.Open.{Open, InOneLine, is_comment, StandsFor, IsTooLong, Midway, nothing_open}
 use Rattle.dali_line.proofs.Ends.{comment_skipped, cut_starts, cut_more, cut_skips, cut_gives, cut_gives_ended, cut_stops, cut_stops_ended, long_whatever, with_newline, starts_nothing}
 
@@ -88,9 +89,6 @@ module _ (told : Bool) (old now : Reach) (line : Open) (m : Midway told old line
     cut = m.cut;
   }
 
-  pub wants_memory : (block : List ℕ) → WantsMemory told old (record { pending = block; taken = now.taken; left = now.left })
-  wants_memory block = record { got = m.got; moved = m.gets.moved; within = omega (arith, m.gets.taken, m.gets.within) }
-
   moved_on : (part rest : List ℕ) → now.pending ≡ part ++ rest → old.pending ++ m.got ≡ (m.used ++ part) ++ rest
   moved_on part rest is = m.parted ∙ ap (λ bytes. m.used ++ bytes) is ∙ sym (append_assoc m.used part rest)
 
@@ -161,3 +159,12 @@ one_byte (suc (suc n)) into within some one = absurd (omega (arith, within))
 pub used_some : (used line : List ℕ) → ((rest : List ℕ) → commands (used ++ rest) ≡ line ∷ commands rest) → 0 < length used
 used_some [] line first = absurd (cc (first []))
 used_some (b ∷ used) line first = omega arith
+
+-- a command was met, and there was no room for it
+pub wanted_line : (told : Bool) (line : List ℕ) (old new : Reach) → length line ≤ MOST_OF_COMMAND → MeetsLine told line old new → WantsMemory told old new
+wanted_line told line old new short met =
+    record { got = met.got; moved = met.gets.moved; within = omega (arith, met.gets.taken, met.gets.within); line = line; short = short; met = inl met }
+
+pub wanted_last : (told : Bool) (line : List ℕ) (old new : Reach) → length line ≤ MOST_OF_COMMAND → MeetsLast told line old new → WantsMemory told old new
+wanted_last told line old new short met =
+    record { got = met.got; moved = met.gets.moved; within = omega (arith, met.gets.taken, met.gets.within); line = line; short = short; met = inr met }

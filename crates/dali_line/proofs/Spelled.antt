@@ -3,7 +3,7 @@ use Rattle.std.specs.Prelude.{codes, decimal}
 use Rattle.dali_base.specs.Spelling.{moment_digits}
 use Rattle.dali_base.specs.Readers.{same_bytes, spelled_name, spelled_moment}
 use Rattle.dali_base.proofs.Spelled.{same_then, name_spelled, moment_spelled}
-use Rattle.dali_line.specs.declared.TheConstants.{MOST_QUANTITY, MOST_PRICE, MOST_BUDGET, MOST_RANK}
+use Rattle.dali_base.specs.Limits.{most_quantity, most_price, most_budget, most_rank}
 use Rattle.dali_line.specs.declared.command.Verb.{Verb}
 use Rattle.dali_line.specs.declared.command.Verb.TheVariants.{Part, Inst, Issue, Draw, Dvp, Fop, Pay, Cancel, Settle, Cutoff, Cycle, Queue, Close, Stat, Ledger, Earmark, Release, Link, Rank}
 use Rattle.dali_line.specs.Grammar.{pieces_of, IsQuantity, IsName, HasFields}
@@ -53,8 +53,8 @@ unfolding spelled_with_one
 one_spelled w a v told =
     by_word (IsOf (w ∷ a ∷ []) v) (same_bytes w (codes "CYCLE")) (spelled_cycle a) _ v told
     (λ t cycle.
-    let budget = bind_some _ (spelled_within 0 MOST_BUDGET a) v cycle in
-    let number = within_spelled 0 MOST_BUDGET a budget.0 budget.1 in
+    let budget = bind_some _ (spelled_within 0 most_budget a) v cycle in
+    let number = within_spelled 0 most_budget a budget.0 budget.1 in
     is_of w (codes "CYCLE") (a ∷ []) (Cycle budget.0) v t budget.2 (ap (λ d. codes "CYCLE" ∷ d ∷ []) (sym number.1)) number.0)
     (λ rest.
     let name = bind_some (named_verb w) (spelled_name a) v rest in
@@ -64,9 +64,9 @@ one_spelled w a v told =
 inst_spelled : (w a b : List ℕ) (v : Verb) → same_bytes w (codes "INST") ≡ true → spelled_inst a b ≡ Some v → IsOf (w ∷ a ∷ b ∷ []) v
 inst_spelled w a b v t told =
     let code = bind_some _ (spelled_name a) v told in
-    let price = bind_some _ (spelled_within 1 MOST_PRICE b) v code.2 in
+    let price = bind_some _ (spelled_within 1 most_price b) v code.2 in
     let first = name_spelled a code.0 code.1 in
-    let second = within_spelled 1 MOST_PRICE b price.0 price.1 in
+    let second = within_spelled 1 most_price b price.0 price.1 in
     is_of w (codes "INST") (a ∷ b ∷ []) (Inst code.0 price.0) v t price.2
     (ap (λ x. codes "INST" ∷ x ∷ decimal price.0 ∷ []) first.1 ∙ ap (λ d. codes "INST" ∷ a ∷ d ∷ []) (sym second.1))
     (subst IsName (sym first.1) first.0, second.0)
@@ -93,9 +93,9 @@ link_spelled w a b v t told =
 rank_spelled : (w a b : List ℕ) (v : Verb) → same_bytes w (codes "RANK") ≡ true → spelled_rank a b ≡ Some v → IsOf (w ∷ a ∷ b ∷ []) v
 rank_spelled w a b v t told =
     let id = bind_some _ (spelled_name a) v told in
-    let rank = bind_some _ (spelled_within 1 MOST_RANK b) v id.2 in
+    let rank = bind_some _ (spelled_within 1 most_rank b) v id.2 in
     let one = name_spelled a id.0 id.1 in
-    let two = within_spelled 1 MOST_RANK b rank.0 rank.1 in
+    let two = within_spelled 1 most_rank b rank.0 rank.1 in
     is_of w (codes "RANK") (a ∷ b ∷ []) (Rank id.0 rank.0) v t rank.2
     (ap (λ x. codes "RANK" ∷ x ∷ decimal rank.0 ∷ []) one.1 ∙ ap (λ d. codes "RANK" ∷ a ∷ d ∷ []) (sym two.1))
     (subst IsName (sym one.1) one.0, two.0)
@@ -127,10 +127,10 @@ unfolding spelled_with_three
 three_spelled w a b c v told =
     let account = bind_some _ (spelled_name a) v told in
     let asset = bind_some _ (spelled_name b) v account.2 in
-    let quantity = bind_some _ (spelled_within 1 MOST_QUANTITY c) v asset.2 in
+    let quantity = bind_some _ (spelled_within 1 most_quantity c) v asset.2 in
     let one = name_spelled a account.0 account.1 in
     let two = name_spelled b asset.0 asset.1 in
-    let three = within_spelled 1 MOST_QUANTITY c quantity.0 quantity.1 in
+    let three = within_spelled 1 most_quantity c quantity.0 quantity.1 in
     let same : holding_verb w a b quantity.0 ≡ Some v =
     ap (λ x. holding_verb w x b quantity.0) (sym one.1) ∙ ap (λ x. holding_verb w account.0 x quantity.0) (sym two.1) ∙ quantity.2 in
     subst (λ d. IsOf (w ∷ a ∷ b ∷ d ∷ []) v) (sym three.1) (holding_spelled w a b quantity.0 v one.0 two.0 three.0 same)
@@ -143,11 +143,11 @@ four_spelled w a b c d v told =
     let id = bind_some _ (spelled_name a) v pay in
     let from = bind_some _ (spelled_name b) v id.2 in
     let to = bind_some _ (spelled_name c) v from.2 in
-    let cash = bind_some _ (spelled_within 1 MOST_QUANTITY d) v to.2 in
+    let cash = bind_some _ (spelled_within 1 most_quantity d) v to.2 in
     let one = name_spelled a id.0 id.1 in
     let two = name_spelled b from.0 from.1 in
     let three = name_spelled c to.0 to.1 in
-    let four = within_spelled 1 MOST_QUANTITY d cash.0 cash.1 in
+    let four = within_spelled 1 most_quantity d cash.0 cash.1 in
     is_of w (codes "PAY") (a ∷ b ∷ c ∷ d ∷ []) (Pay id.0 from.0 to.0 cash.0) v t cash.2
     (ap (λ x. codes "PAY" ∷ x ∷ from.0 ∷ to.0 ∷ decimal cash.0 ∷ []) one.1 ∙ ap (λ x. codes "PAY" ∷ a ∷ x ∷ to.0 ∷ decimal cash.0 ∷ []) two.1
     ∙ ap (λ x. codes "PAY" ∷ a ∷ b ∷ x ∷ decimal cash.0 ∷ []) three.1 ∙ ap (λ x. codes "PAY" ∷ a ∷ b ∷ c ∷ x ∷ []) (sym four.1))
@@ -163,12 +163,12 @@ five_spelled w a b c d e v told =
     let from = bind_some _ (spelled_name b) v id.2 in
     let to = bind_some _ (spelled_name c) v from.2 in
     let code = bind_some _ (spelled_name d) v to.2 in
-    let quantity = bind_some _ (spelled_within 1 MOST_QUANTITY e) v code.2 in
+    let quantity = bind_some _ (spelled_within 1 most_quantity e) v code.2 in
     let one = name_spelled a id.0 id.1 in
     let two = name_spelled b from.0 from.1 in
     let three = name_spelled c to.0 to.1 in
     let four = name_spelled d code.0 code.1 in
-    let five = within_spelled 1 MOST_QUANTITY e quantity.0 quantity.1 in
+    let five = within_spelled 1 most_quantity e quantity.0 quantity.1 in
     is_of w (codes "FOP") (a ∷ b ∷ c ∷ d ∷ e ∷ []) (Fop id.0 from.0 to.0 code.0 quantity.0) v t quantity.2
     (ap (λ x. codes "FOP" ∷ x ∷ from.0 ∷ to.0 ∷ code.0 ∷ decimal quantity.0 ∷ []) one.1 ∙ ap (λ x. codes "FOP" ∷ a ∷ x ∷ to.0 ∷ code.0 ∷ decimal quantity.0 ∷ []) two.1
     ∙ ap (λ x. codes "FOP" ∷ a ∷ b ∷ x ∷ code.0 ∷ decimal quantity.0 ∷ []) three.1 ∙ ap (λ x. codes "FOP" ∷ a ∷ b ∷ c ∷ x ∷ decimal quantity.0 ∷ []) four.1
@@ -185,14 +185,14 @@ six_spelled w a b c d e f v told =
     let seller = bind_some _ (spelled_name b) v id.2 in
     let buyer = bind_some _ (spelled_name c) v seller.2 in
     let code = bind_some _ (spelled_name d) v buyer.2 in
-    let quantity = bind_some _ (spelled_within 1 MOST_QUANTITY e) v code.2 in
-    let cash = bind_some _ (spelled_within 1 MOST_QUANTITY f) v quantity.2 in
+    let quantity = bind_some _ (spelled_within 1 most_quantity e) v code.2 in
+    let cash = bind_some _ (spelled_within 1 most_quantity f) v quantity.2 in
     let one = name_spelled a id.0 id.1 in
     let two = name_spelled b seller.0 seller.1 in
     let three = name_spelled c buyer.0 buyer.1 in
     let four = name_spelled d code.0 code.1 in
-    let five = within_spelled 1 MOST_QUANTITY e quantity.0 quantity.1 in
-    let six = within_spelled 1 MOST_QUANTITY f cash.0 cash.1 in
+    let five = within_spelled 1 most_quantity e quantity.0 quantity.1 in
+    let six = within_spelled 1 most_quantity f cash.0 cash.1 in
     is_of w (codes "DVP") (a ∷ b ∷ c ∷ d ∷ e ∷ f ∷ []) (Dvp id.0 seller.0 buyer.0 code.0 quantity.0 cash.0) v t cash.2
     (ap (λ x. codes "DVP" ∷ x ∷ seller.0 ∷ buyer.0 ∷ code.0 ∷ decimal quantity.0 ∷ decimal cash.0 ∷ []) one.1
     ∙ ap (λ x. codes "DVP" ∷ a ∷ x ∷ buyer.0 ∷ code.0 ∷ decimal quantity.0 ∷ decimal cash.0 ∷ []) two.1

@@ -1,10 +1,9 @@
 use Rattle.std.specs.Prelude.{◌≡◌, ℕ, ◌<◌, ◌≤◌, List, [], ◌∷◌, codes, decimal, IsTrue}
 use Rattle.std.specs.List.{join_with_byte}
 use Rattle.dali_base.specs.Spelling.{is_name, DAY, moment_digits}
-use Rattle.dali_base.specs.declared.TheConstants.{NEWEST}
+use Rattle.dali_base.specs.Limits.{newest_edition, most_quantity, most_price, most_budget, most_rank}
 use Rattle.dali_base.specs.declared.kind.Kind.{Kind}
 use Rattle.dali_base.specs.declared.kind.Kind.TheVariants as kinds
-use Rattle.dali_line.specs.declared.TheConstants.{MOST_QUANTITY, MOST_PRICE, MOST_BUDGET, MOST_RANK}
 use Rattle.dali_line.specs.declared.command.Command.{Command}
 use Rattle.dali_line.specs.declared.command.Verb.{Verb}
 use Rattle.dali_line.specs.declared.command.Verb.TheVariants.{Part, Inst, Issue, Draw, Dvp, Fop, Pay, Cancel, Settle, Cutoff, Cycle, Queue, Close, Stat, Ledger, Earmark, Release, Link, Rank}
@@ -96,7 +95,7 @@ pub record IsWithin (low high n : ℕ) : Type 0 where
 
 -- a quantity, or an amount of cash in centavos
 abbrev pub IsQuantity : ℕ → Type 0
-IsQuantity n = IsWithin 1 MOST_QUANTITY n
+IsQuantity n = IsWithin 1 most_quantity n
 
 abbrev pub IsName : List ℕ → Type 0
 IsName name = IsTrue (is_name name)
@@ -104,7 +103,7 @@ IsName name = IsTrue (is_name name)
 -- each field of the verb lies in its range
 abbrev pub HasFields : Verb → Type 0
 HasFields (Part account) = IsName account
-HasFields (Inst code price) = IsName code × IsWithin 1 MOST_PRICE price
+HasFields (Inst code price) = IsName code × IsWithin 1 most_price price
 HasFields (Issue account asset quantity) = IsName account × IsName asset × IsQuantity quantity
 HasFields (Draw account asset quantity) = IsName account × IsName asset × IsQuantity quantity
 HasFields (Dvp id seller buyer code quantity cash) =
@@ -114,7 +113,7 @@ HasFields (Pay id from to cash) = IsName id × IsName from × IsName to × IsQua
 HasFields (Cancel id) = IsName id
 HasFields (Settle id) = IsName id
 HasFields (Cutoff kind moment) = moment < DAY
-HasFields (Cycle budget) = IsWithin 0 MOST_BUDGET budget
+HasFields (Cycle budget) = IsWithin 0 most_budget budget
 HasFields Queue = Unit {0}
 HasFields Close = Unit {0}
 HasFields (Stat account) = IsName account
@@ -122,14 +121,14 @@ HasFields (Ledger account) = IsName account
 HasFields (Earmark account asset quantity) = IsName account × IsName asset × IsQuantity quantity
 HasFields (Release account asset quantity) = IsName account × IsName asset × IsQuantity quantity
 HasFields (Link first second) = IsName first × IsName second
-HasFields (Rank id rank) = IsName id × IsWithin 1 MOST_RANK rank
+HasFields (Rank id rank) = IsName id × IsWithin 1 most_rank rank
 
 -- a command of the grammar of this edition
 pub record IsCommand (edition : ℕ) (c : Command) : Type 0 where
   pub moment : c.moment < DAY
   pub fields : HasFields c.verb
   pub since : first_edition c.verb ≤ edition
-  pub newest : edition ≤ NEWEST
+  pub newest : edition ≤ newest_edition
 
 -- the bytes are the command's spelling in the grammar of this edition
 pub record Spells (edition : ℕ) (bytes : List ℕ) (c : Command) : Type 0 where

@@ -1,13 +1,14 @@
 use Rattle.std.specs.Prelude.{◌≡◌, ℕ, ◌+◌, ◌<◌, ◌≤◌, ◌⊎◌, Bool, true, false, IsTrue, List, [], ◌∷◌, ◌++◌, length}
 use Rattle.dali_outside.specs.Outside.{Feed}
 use Rattle.dali_line.specs.Commands.{commands, ended_commands}
+use Rattle.dali_line.specs.Limits.{most_file}
 use Rattle.dali_line.specs.Line.{MOST_OF_COMMAND}
 use Rattle.dali_line.specs.declared.line_end.LineEnd.{LineEnd}
 use Rattle.dali_line.specs.declared.line_end.LineEnd.TheVariants.{ReadFault, LongLine, LongFile, OutOfMemory}
 
 -- the most bytes of a day file
 abbrev pub MOST_OF_FILE : ℕ
-MOST_OF_FILE = 67108864
+MOST_OF_FILE = most_file
 
 -- A reader of lines: the bytes that were taken and don't belong to a command that was given, how many bytes were
 -- taken, how many commands were given, and whether no more come: the end of input was met, or an error was answered.
@@ -104,11 +105,15 @@ pub record Gives (told : Bool) (line : List ℕ) (old new : Reader) (before afte
   pub next : ((new.over ≡ false) × MeetsLine told line (reached old before) (reached new after))
       ⊎ ((new.over ≡ true) × MeetsLast told line (reached old before) (reached new after))
 
--- want of memory: the bytes that were taken are gone
+-- want of memory: the next command was met, whole and not too long, and only room for it was wanted; the bytes that were
+-- taken are gone
 pub record WantsMemory (told : Bool) (old new : Reach) : Type 0 where
   pub got : List ℕ
   pub moved : IsTrue told → old.left ≡ got ++ new.left
   pub within : old.taken + length got ≤ MOST_OF_FILE
+  pub line : List ℕ
+  pub short : length line ≤ MOST_OF_COMMAND
+  pub met : MeetsLine told line old new ⊎ MeetsLast told line old new
 
 -- the end of input was met, and no command was left
 pub record Ends (told : Bool) (old new : Reader) (before after : Feed) : Type 0 where

@@ -1,11 +1,10 @@
 use Rattle.std.specs.Prelude.{ℕ, ◌==◌, ◌&&◌, nat_le, Option, Some, None, List, [], ◌∷◌, codes, option_and_then, if◌then◌else◌}
 use Rattle.std.specs.List.{slice_split}
 use Rattle.dali_base.specs.Readers.{same_bytes, spelled_name, spelled_number, spelled_moment}
-use Rattle.dali_base.specs.declared.TheConstants.{NEWEST}
+use Rattle.dali_base.specs.Limits.{newest_edition, most_quantity, most_price, most_budget, most_rank}
 use Rattle.dali_base.specs.declared.kind.Kind.{Kind}
 use Rattle.dali_base.specs.declared.kind.Kind.TheVariants as kinds
 use Rattle.dali_line.specs.Grammar.{first_edition}
-use Rattle.dali_line.specs.declared.TheConstants.{MOST_QUANTITY, MOST_PRICE, MOST_BUDGET, MOST_RANK}
 use Rattle.dali_line.specs.declared.command.Command.{Command}
 use Rattle.dali_line.specs.declared.command.Verb.{Verb}
 use Rattle.dali_line.specs.declared.command.Verb.TheVariants.{Part, Inst, Issue, Draw, Dvp, Fop, Pay, Cancel, Settle, Cutoff, Cycle, Queue, Close, Stat, Ledger, Earmark, Release, Link, Rank}
@@ -46,7 +45,7 @@ named_verb word name =
     else None
 
 abbrev pub spelled_cycle : List ℕ → Option Verb
-spelled_cycle a = option_and_then (λ b. Some (Cycle b)) (spelled_within 0 MOST_BUDGET a)
+spelled_cycle a = option_and_then (λ b. Some (Cycle b)) (spelled_within 0 most_budget a)
 
 unfoldable pub spelled_with_one : List ℕ → List ℕ → Option Verb
 spelled_with_one word a =
@@ -54,7 +53,7 @@ spelled_with_one word a =
     else option_and_then (named_verb word) (spelled_name a)
 
 abbrev pub spelled_inst : List ℕ → List ℕ → Option Verb
-spelled_inst a b = option_and_then (λ c. option_and_then (λ p. Some (Inst c p)) (spelled_within 1 MOST_PRICE b)) (spelled_name a)
+spelled_inst a b = option_and_then (λ c. option_and_then (λ p. Some (Inst c p)) (spelled_within 1 most_price b)) (spelled_name a)
 
 abbrev pub spelled_cutoff : List ℕ → List ℕ → Option Verb
 spelled_cutoff a b = option_and_then (λ k. option_and_then (λ m. Some (Cutoff k m)) (spelled_moment b)) (spelled_kind a)
@@ -63,7 +62,7 @@ abbrev pub spelled_link : List ℕ → List ℕ → Option Verb
 spelled_link a b = option_and_then (λ f. option_and_then (λ s. Some (Link f s)) (spelled_name b)) (spelled_name a)
 
 abbrev pub spelled_rank : List ℕ → List ℕ → Option Verb
-spelled_rank a b = option_and_then (λ i. option_and_then (λ r. Some (Rank i r)) (spelled_within 1 MOST_RANK b)) (spelled_name a)
+spelled_rank a b = option_and_then (λ i. option_and_then (λ r. Some (Rank i r)) (spelled_within 1 most_rank b)) (spelled_name a)
 
 unfoldable pub spelled_with_two : List ℕ → List ℕ → List ℕ → Option Verb
 spelled_with_two word a b =
@@ -85,27 +84,27 @@ holding_verb word account asset quantity =
 unfoldable pub spelled_with_three : List ℕ → List ℕ → List ℕ → List ℕ → Option Verb
 spelled_with_three word a b c =
     option_and_then (λ account. option_and_then (λ asset. option_and_then (λ quantity. holding_verb word account asset quantity)
-    (spelled_within 1 MOST_QUANTITY c)) (spelled_name b)) (spelled_name a)
+    (spelled_within 1 most_quantity c)) (spelled_name b)) (spelled_name a)
 
 unfoldable pub spelled_with_four : List ℕ → List ℕ → List ℕ → List ℕ → List ℕ → Option Verb
 spelled_with_four word a b c d =
     if same_bytes word (codes "PAY") then
     option_and_then (λ id. option_and_then (λ from. option_and_then (λ to. option_and_then (λ cash. Some (Pay id from to cash))
-    (spelled_within 1 MOST_QUANTITY d)) (spelled_name c)) (spelled_name b)) (spelled_name a)
+    (spelled_within 1 most_quantity d)) (spelled_name c)) (spelled_name b)) (spelled_name a)
     else None
 
 unfoldable pub spelled_with_five : List ℕ → List ℕ → List ℕ → List ℕ → List ℕ → List ℕ → Option Verb
 spelled_with_five word a b c d e =
     if same_bytes word (codes "FOP") then
     option_and_then (λ id. option_and_then (λ from. option_and_then (λ to. option_and_then (λ code. option_and_then (λ quantity. Some (Fop id from to code quantity))
-    (spelled_within 1 MOST_QUANTITY e)) (spelled_name d)) (spelled_name c)) (spelled_name b)) (spelled_name a)
+    (spelled_within 1 most_quantity e)) (spelled_name d)) (spelled_name c)) (spelled_name b)) (spelled_name a)
     else None
 
 unfoldable pub spelled_with_six : List ℕ → List ℕ → List ℕ → List ℕ → List ℕ → List ℕ → List ℕ → Option Verb
 spelled_with_six word a b c d e f =
     if same_bytes word (codes "DVP") then
     option_and_then (λ id. option_and_then (λ seller. option_and_then (λ buyer. option_and_then (λ code. option_and_then (λ quantity. option_and_then (λ cash. Some (Dvp id seller buyer code quantity cash))
-    (spelled_within 1 MOST_QUANTITY f)) (spelled_within 1 MOST_QUANTITY e)) (spelled_name d)) (spelled_name c)) (spelled_name b)) (spelled_name a)
+    (spelled_within 1 most_quantity f)) (spelled_within 1 most_quantity e)) (spelled_name d)) (spelled_name c)) (spelled_name b)) (spelled_name a)
     else None
 
 -- the verb that a word and its fields spell
@@ -121,7 +120,7 @@ spelled_verb _ = None
 
 -- the verb, where the edition has it
 abbrev pub in_edition : ℕ → Verb → Option Verb
-in_edition edition verb = if nat_le (first_edition verb) edition && nat_le edition NEWEST then Some verb else None
+in_edition edition verb = if nat_le (first_edition verb) edition && nat_le edition newest_edition then Some verb else None
 
 -- the command that the moment's piece and the verb's pieces spell
 abbrev pub spelled_command : ℕ → List (List ℕ) → Option Command

@@ -1,10 +1,11 @@
-use Rattle.std.specs.Prelude.{◌≡◌, ℕ, Bool, true, false, IsTrue, List, [], ◌∷◌}
+use Rattle.std.specs.Prelude.{◌≡◌, ℕ, ◌≤◌, Bool, true, false, IsTrue, List, [], ◌∷◌, length}
 use Rattle.std.specs.Str.Lines.{strip_carriage_return}
 use Rattle.dali_line.specs.Commands.{is_command, commands}
+use Rattle.dali_line.specs.Line.{MOST_OF_COMMAND}
 use Rattle.dali_line.specs.Open.{Open, StandsFor, Midway, nothing_open}
 use Rattle.dali_line.specs.declared.scan.Turn.{Turn}
 use Rattle.dali_line.specs.declared.scan.Turn.TheVariants.{Part, Newline, End}
-use Rattle.dali_line.specs.Lines.{Reach, MeetsLine, MeetsLast, MeetsEnd, FirstIsLong, WantsMemory}
+use Rattle.dali_line.specs.Lines.{Reach, MeetsLine, MeetsLast, MeetsEnd, FirstIsLong}
 use Rattle.dali_line.specs.declared.scan.Found.{Found}
 use Rattle.dali_line.specs.declared.scan.Found.TheVariants.{Ended, Last, Nothing}
 use Rattle.dali_line.specs.declared.line_end.LineEnd.{LineEnd}
@@ -22,7 +23,6 @@ pub record AtNewline (told : Bool) (old : Reach) (line : Open) (now : Reach) : T
   pub stands : StandsFor raw line
   pub gives : is_command (strip_carriage_return raw) ≡ true → MeetsLine told (strip_carriage_return raw) old now
   pub skips : is_command (strip_carriage_return raw) ≡ false → Midway told old nothing_open now
-  pub wants : WantsMemory told old now
 
 -- the end of input was met behind an open line
 pub record AtEnd (told : Bool) (old : Reach) (line : Open) (now : Reach) : Type 0 where
@@ -58,4 +58,4 @@ abbrev pub CutsOff : ℕ → List ℕ → LineEnd → Type 0
 CutsOff number raw ReadFault = ⊥
 CutsOff number raw (LongLine k) = (k ≡ number) × FirstIsLong (commands raw)
 CutsOff number raw LongFile = ⊥
-CutsOff number raw OutOfMemory = Unit {0}
+CutsOff number raw OutOfMemory = (line : List ℕ) × (length line ≤ MOST_OF_COMMAND) × (commands raw ≡ line ∷ [])

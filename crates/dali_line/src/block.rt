@@ -1,4 +1,4 @@
-ghost use Rattle.std.specs.Prelude.{◌≡◌, ◌≤◌, ◌<◌, ◌==◌, ◌++◌, [], length, take, drop, IfOk, OnErr, IsTrue};
+ghost use Rattle.std.specs.Prelude.{◌≡◌, ◌≤◌, ◌<◌, ◌==◌, ◌++◌, [], length, take, drop, IfOk, OnOk, OnErr, IsTrue};
 ghost use Rattle.dali_outside.specs.Outside.{Rose, Takes};
 
 use dali_base::OutOfMemory;
@@ -77,6 +77,7 @@ impl Block {
         ensures kept { IsTrue S.tells → OnErr result ((S.feed source.new).left ≡ (S.feed source.old).left) }
         ensures none { OnErr result (self.new ≡ []) }
         ensures faults { (S.feed source.old).faults ≤ (S.feed source.new).faults }
+        ensures quiet { OnOk result ((S.feed source.new).faults ≡ (S.feed source.old).faults) }
         ensures failed { OnErr result (Rose (S.feed source.old).faults (S.feed source.new).faults) }
     {
         let n = pull(source, &mut self.bytes[..], most.min(BLOCK))?;
@@ -96,6 +97,7 @@ fn pull<S: Source>(source: &mut S, bytes: &mut [u8], most: usize) -> Result<usiz
     ensures ends { IsTrue S.tells → IfOk result (λ n. n ≡ 0 → (S.feed source.old).left ≡ []) }
     ensures kept { IsTrue S.tells → OnErr result ((S.feed source.new).left ≡ (S.feed source.old).left) }
     ensures faults { (S.feed source.old).faults ≤ (S.feed source.new).faults }
+    ensures quiet { OnOk result ((S.feed source.new).faults ≡ (S.feed source.old).faults) }
     ensures failed { OnErr result (Rose (S.feed source.old).faults (S.feed source.new).faults) }
 {
     source.take(&mut bytes[..most])

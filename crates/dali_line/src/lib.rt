@@ -20,20 +20,9 @@ mod verbs;
 mod writing;
 
 pub use command::{Command, Verb};
+pub use dali_base::limits::{MOST_BUDGET, MOST_PRICE, MOST_QUANTITY, MOST_RANK};
 pub use line::Line;
 pub use line_end::LineEnd;
 pub use lines::Lines;
 pub use reading::read_line;
 pub use writing::write_line;
-
-/// The greatest quantity, and the greatest amount of cash in centavos.
-pub const MOST_QUANTITY: u64 = 1_000_000_000_000_000;
-
-/// The greatest price, in centavos.
-pub const MOST_PRICE: u64 = 1_000_000_000;
-
-/// The greatest budget of a cycle, in branchings.
-pub const MOST_BUDGET: u64 = 4096;
-
-/// The greatest rank.
-pub const MOST_RANK: u64 = 16;

@@ -1,4 +1,4 @@
-ghost use Rattle.std.specs.Prelude.{◌≡◌, ◌+◌, ◌≤◌, [], Ok, Err, Some, None, true, false, IfOk, IfErr, IfSome, IfNone, OnErr, IsTrue};
+ghost use Rattle.std.specs.Prelude.{◌≡◌, ◌≢◌, ◌+◌, ◌≤◌, [], Ok, Err, Some, None, true, false, IfOk, IfErr, IfSome, IfNone, OnErr, IsTrue};
 ghost use Rattle.dali_outside.specs.Outside.{Rose};
 ghost use Rattle.dali_line.specs.Lines.{Gives, Ends, Stops, reached, MOST_OF_FILE};
 
@@ -54,7 +54,9 @@ impl Lines {
     /// after an earlier error.
     ///
     /// At most 67,108,864 bytes of the source are taken, and one more that shows that there is one.
-    /// `ReadFault` comes only where the source's count of faults rose, or stands at u64's last value. `LongLine` comes
+    /// `ReadFault` comes only where the source's count of faults rose, or stands at u64's last value, and at every other
+    /// answer the count stays, so no failed take is passed over. `OutOfMemory` comes only where the next command was met,
+    /// whole and not too long. `LongLine` comes
     /// exactly where the next command has a 201st byte, whatever follows the bytes taken, or by the end of input where
     /// that was met; it counts commands from 1. `LongFile` comes exactly where the next command doesn't end within
     /// 67,108,864 bytes and one byte more was taken, which doesn't show that the command is long.
@@ -63,6 +65,7 @@ impl Lines {
         ensures some { self.old.over ≡ false → IfOk result (λ o. IfSome o (λ line. Gives S.tells line self.old self.new (S.feed source.old) (S.feed source.new))) }
         ensures none { self.old.over ≡ false → IfOk result (λ o. IfNone o (Ends S.tells self.old self.new (S.feed source.old) (S.feed source.new))) }
         ensures stops { IfErr result (Stops S.tells (self.old.given + 1) (reached self.old (S.feed source.old)) (reached self.new (S.feed source.new))) }
+        ensures quiet { result ≢ Err LineEnd.ReadFault → (S.feed source.new).faults ≡ (S.feed source.old).faults }
         ensures failed { result ≡ Err LineEnd.ReadFault → Rose (S.feed source.old).faults (S.feed source.new).faults }
         ensures ended { OnErr result (self.new.over ≡ true) }
         ensures faults { (S.feed source.old).faults ≤ (S.feed source.new).faults }

@@ -1,4 +1,4 @@
-ghost use Rattle.std.specs.Prelude.{◌≡◌, ◌==◌, ◌+◌, ◌*◌, ◌-◌, ◌≤◌, ◌<◌, List, ℕ, [], ◌∷◌, ◌++◌, Err, true, false, length, take, drop, position, IfOk, OnOk, IfErr, IfSome, IfNone, OnErr, IsTrue};
+ghost use Rattle.std.specs.Prelude.{◌≡◌, ◌≢◌, ◌==◌, ◌+◌, ◌*◌, ◌-◌, ◌≤◌, ◌<◌, List, ℕ, [], ◌∷◌, ◌++◌, Err, true, false, length, take, drop, position, IfOk, OnOk, IfErr, IfSome, IfNone, OnErr, IsTrue};
 ghost use Rattle.dali_outside.specs.Outside.{Rose};
 ghost use Rattle.dali_line.specs.Lines.{Reach, reach, Stops, IsLong, MOST_OF_FILE};
 ghost use Rattle.dali_line.specs.Open.{InOneLine, StandsFor, IsTooLong, Midway, nothing_open};
@@ -41,6 +41,7 @@ pub(crate) fn read_command<S: Source>(
     ensures found { IfOk result (Finds S.tells (reach block.old taken.old (S.feed source.old)) (reach block.new taken.new (S.feed source.new))) }
     ensures stops { IfErr result (Stops S.tells number (reach block.old taken.old (S.feed source.old)) (reach block.new taken.new (S.feed source.new))) }
     ensures faults { (S.feed source.old).faults ≤ (S.feed source.new).faults }
+    ensures quiet { result ≢ Err LineEnd.ReadFault → (S.feed source.new).faults ≡ (S.feed source.old).faults }
     ensures failed { result ≡ Err LineEnd.ReadFault → Rose (S.feed source.old).faults (S.feed source.new).faults }
     ensures within { taken.new ≤ MOST_OF_FILE }
     ensures counted { taken.old + length block.new ≤ taken.new + length block.old }
@@ -83,6 +84,7 @@ fn step<S: Source>(
     ensures steps { (old : Reach) → Midway S.tells old line.old (reach block.old taken.old (S.feed source.old)) → IfOk result (Steps S.tells old line.new (reach block.new taken.new (S.feed source.new))) }
     ensures stops { (old : Reach) → Midway S.tells old line.old (reach block.old taken.old (S.feed source.old)) → IfErr result (Stops S.tells number old (reach block.new taken.new (S.feed source.new))) }
     ensures faults { (S.feed source.old).faults ≤ (S.feed source.new).faults }
+    ensures quiet { result ≢ Err LineEnd.ReadFault → (S.feed source.new).faults ≡ (S.feed source.old).faults }
     ensures failed { result ≡ Err LineEnd.ReadFault → Rose (S.feed source.old).faults (S.feed source.new).faults }
     ensures within { taken.new ≤ MOST_OF_FILE }
     ensures counted { taken.old + length block.new ≤ taken.new + length block.old }
@@ -119,6 +121,7 @@ fn refill<S: Source>(
     ensures end { IfOk result (λ more. more ≡ false → (block.new ≡ []) × (IsTrue S.tells → (S.feed source.new).left ≡ [])) }
     ensures stops { (old : Reach) → Midway S.tells old line.old (reach block.old taken.old (S.feed source.old)) → IfErr result (Stops S.tells number old (reach block.new taken.new (S.feed source.new))) }
     ensures faults { (S.feed source.old).faults ≤ (S.feed source.new).faults }
+    ensures quiet { result ≢ Err LineEnd.ReadFault → (S.feed source.new).faults ≡ (S.feed source.old).faults }
     ensures failed { result ≡ Err LineEnd.ReadFault → Rose (S.feed source.old).faults (S.feed source.new).faults }
 {
     if *taken == MOST_BYTES {
@@ -139,6 +142,7 @@ fn past_limit<S: Source>(line: &mut OpenLine, source: &mut S, number: u64) -> Re
     ensures end { IfOk result (λ more. (more ≡ false) × (IsTrue S.tells → (S.feed source.new).left ≡ [])) }
     ensures stops { (old : Reach) → Midway S.tells old line.old (reach [] MOST_OF_FILE (S.feed source.old)) → IfErr result (Stops S.tells number old (reach [] MOST_OF_FILE (S.feed source.new))) }
     ensures faults { (S.feed source.old).faults ≤ (S.feed source.new).faults }
+    ensures quiet { result ≢ Err LineEnd.ReadFault → (S.feed source.new).faults ≡ (S.feed source.old).faults }
     ensures failed { result ≡ Err LineEnd.ReadFault → Rose (S.feed source.old).faults (S.feed source.new).faults }
 {
     let mut past = [0];

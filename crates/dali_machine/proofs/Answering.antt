@@ -3,6 +3,7 @@ use Rattle.std.specs.Prelude.{IsTrue}
 use Rattle.std.specs.List.{list_all}
 use Rattle.std.specs.Option.{option_map_or}
 use Rattle.dali_account.proofs.SumLemmas.{first_true, second_from_first}
+use Rattle.dali_line.specs.Reading.{command_of}
 use Rattle.dali_line.specs.declared.command.Command.{Command}
 use Rattle.dali_line.specs.declared.command.Verb.{Verb}
 use Rattle.dali_line.specs.declared.command.Verb.TheVariants.{Part, Inst, Issue, Draw, Dvp, Fop, Pay, Cancel, Settle, Cutoff, Cycle, Queue, Close, Stat, Ledger, Earmark, Release, Link, Rank}
@@ -12,7 +13,7 @@ use Rattle.dali_machine.specs.declared.outcome.Code.TheVariants.{Closed}
 use Rattle.dali_machine.specs.declared.judged.Judged.{Judged}
 use Rattle.dali_machine.specs.declared.judged.Judged.TheVariants as judgements
 use Rattle.dali_machine.specs.Refusals.{first_of, sentences, refusal}
-use Rattle.dali_machine.specs.Step.{judged, judged_by, judged_command, command_in, verdict, is_report}
+use Rattle.dali_machine.specs.Step.{judged, judged_by, judged_command, verdict, is_report}
 use Rattle.dali_machine.specs.Refused.{is_early, is_told_apart}
 
 -- the sentences of a verb have none of the two early codes
@@ -65,7 +66,7 @@ by_late c (Some code) h = h
 
 pub judged_apart : (m : Machine) (edition : ℕ) (line : List ℕ) (j : Judged) → j ≡ judged edition m line → IsTrue (is_told_apart j)
 unfolding judged
-judged_apart m edition line j is = subst (λ k. IsTrue (is_told_apart k)) (sym is) (by (command_in edition line))
+judged_apart m edition line j is = subst (λ k. IsTrue (is_told_apart k)) (sym is) (by (command_of edition line))
   where
     by : (o : Option Command) → is_told_apart (judged_command m o) ≡ true
     by None = refl

@@ -1,4 +1,4 @@
-use Rattle.std.proofs.Common.{◌≡◌, ℕ, Bool, true, false, cond, not, ◌&&◌, List, Option, Some, None, Result, Ok, Err, nat_lt, refl, sym, ap, ◌∙◌, subst}
+use Rattle.std.proofs.Common.{◌⊎◌, inl, inr, ◌≡◌, ℕ, Bool, true, false, cond, not, ◌&&◌, List, Option, Some, None, Result, Ok, Err, nat_lt, refl, sym, ap, ◌∙◌, subst}
 use Rattle.std.specs.Prelude.{IfOk}
 use Rattle.dali_line.specs.declared.command.Command.{Command}
 use Rattle.dali_line.specs.declared.command.Verb.{Verb}
@@ -9,10 +9,16 @@ use Rattle.dali_machine.specs.declared.outcome.Code.TheVariants.{Closed}
 use Rattle.dali_machine.specs.declared.judged.Judged.{Judged}
 use Rattle.dali_machine.specs.declared.judged.Judged.TheVariants as judgements
 use Rattle.dali_machine.specs.Refusals.{refusal}
-use Rattle.dali_machine.specs.Effects.{net_for}
-use Rattle.dali_machine.specs.Outcomes.{answered}
-use Rattle.dali_machine.specs.Step.{counted, at_moment, turn, step, judged, judged_by, judged_command, command_in, verdict, is_report}
-use Rattle.dali_machine.specs.Ready.{ReadyRecord, IsReady, IsMadeReady, IsAllowed, HasGoodFields, CanCommit, MayTake, HasNetFor, HasPlaceFor, HasPlaceForJudged, net_of_judged}
+use Rattle.dali_machine.specs.Effects.{accepted, net_for}
+use Rattle.dali_machine.specs.Outcomes.{answered, IsReported}
+use Rattle.dali_machine.specs.declared.outcome.Outcome.{Outcome}
+use Rattle.dali_machine.specs.declared.outcome.Outcome.TheVariants as outcomes
+use Rattle.dali_machine.specs.declared.report.CycleReport.{CycleReport}
+use Rattle.dali_line.specs.Reading.{command_of}
+use Rattle.dali_tree.specs.declared.choice.Choice.{Choice}
+use Rattle.dali_machine.specs.Cycles.{Cycling, accepted_cycle, cycling, HasChoice, report_of}
+use Rattle.dali_machine.specs.Step.{counted, at_moment, taken, turn, step, judged, judged_by, judged_command, verdict, is_report}
+use Rattle.dali_machine.specs.Ready.{ReadyRecord, IsReady, IsMadeReady, IsAllowed, HasGoodFields, CanCommit, MayTake, HasNetFor, HasPlaceFor, HasPlaceForJudged, net_of_judged, cycle_in}
 
 -- what is refused, booked and answered doesn't turn on the count and the greatest moment
 pub refusal_counted : (m : Machine) (t u : ℕ) (verb : Verb) → refusal (at_moment (counted m) t) u verb ≡ refusal m u verb
@@ -80,11 +86,19 @@ answered_counted m (Release account asset n) = refl
 answered_counted m (Link first second) = refl
 answered_counted m (Rank id rank) = refl
 
-pub outcome_counted : (m : Machine) (j : Judged) → (turn (counted m) j).outcome ≡ (turn m j).outcome
-outcome_counted m judgements.Form = refl
-outcome_counted m judgements.Back = refl
-outcome_counted m (judgements.No t code) = refl
-outcome_counted m (judgements.Yes t verb) = answered_counted m verb
+report_counted : (m : Machine) (t budget : ℕ) (choice : Choice) → report_of (counted m) t budget choice ≡ report_of m t budget choice
+unfolding report_of
+report_counted m t budget choice = refl
+
+taken_counted : (m : Machine) (t : ℕ) (verb : Verb) (cycle : Option Cycling) → (taken (counted m) t verb cycle).outcome ≡ (taken m t verb cycle).outcome
+taken_counted m t verb None = answered_counted m verb
+taken_counted m t verb (Some c) = ap outcomes.Cycle (report_counted m t c.budget c.choice)
+
+pub outcome_counted : (m : Machine) (j : Judged) (cycle : Option Cycling) → (turn (counted m) j cycle).outcome ≡ (turn m j cycle).outcome
+outcome_counted m judgements.Form cycle = refl
+outcome_counted m judgements.Back cycle = refl
+outcome_counted m (judgements.No t code) cycle = refl
+outcome_counted m (judgements.Yes t verb) cycle = taken_counted m t verb cycle
 
 place_kept : (s : StateRecord) (m : Machine) (verb : Verb) → HasPlaceFor s verb → HasPlaceFor (record s { machine = m }) verb
 place_kept s m (Part account) h = h
@@ -108,38 +122,70 @@ place_kept s m (Link first second) h = h
 place_kept s m (Rank id rank) h = h
 
 -- what `accept` may rely on, from what `commit` may
-pub taken : (s : StateRecord) (t : ℕ) (verb : Verb) (ready : ReadyRecord) → CanCommit s ready → ready.judged ≡ judgements.Yes t verb → MayTake (record s { machine = at_moment (counted s.machine) t }) verb
-taken s t verb ready can is =
+pub may_take : (s : StateRecord) (t : ℕ) (verb : Verb) (ready : ReadyRecord) → CanCommit s ready → ready.judged ≡ judgements.Yes t verb → MayTake (record s { machine = at_moment (counted s.machine) t }) verb
+may_take s t verb ready can is =
     let allowed : refusal s.machine t verb ≡ None = subst (IsAllowed s.machine) is can.allowed in
     let fields : HasGoodFields (judgements.Yes t verb) = subst HasGoodFields is can.fields in
     let place : HasPlaceFor s verb = subst (HasPlaceForJudged s) is can.room.place in
     record {
       moment = t;
       allowed = refusal_counted s.machine t t verb ∙ allowed;
-      fields = fields.0;
+      fields = fields;
       place = place_kept s (at_moment (counted s.machine) t) verb place;
     }
 
-pub netted : (s : StateRecord) (t : ℕ) (verb : Verb) (ready : ReadyRecord) → CanCommit s ready → ready.judged ≡ judgements.Yes t verb → HasNetFor (record s { machine = at_moment (counted s.machine) t }) verb ready.net
-netted s t verb ready can is = record {
-  is = can.net ∙ ap (net_of_judged s.machine) is ∙ sym (net_counted s.machine t verb);
+pub netted : (s : StateRecord) (t : ℕ) (verb : Verb) (ready : ReadyRecord) → CanCommit s ready → cycle_in ready.outcome ≡ None → ready.judged ≡ judgements.Yes t verb →
+    HasNetFor (record s { machine = at_moment (counted s.machine) t }) verb ready.net
+netted s t verb ready can none is = record {
+  is = can.net ∙ ap (λ c. net_of_judged s.machine ready.judged c) none ∙ ap (λ j. net_of_judged s.machine j None) is ∙ sym (net_counted s.machine t verb);
   lines = can.room.lines;
   rows = can.room.rows;
 }
 
 -- the turn of a judgement made ready is the step
-pub step_of_turn : (m : Machine) (edition : ℕ) (line : List ℕ) (ready : ReadyRecord) → IsReady edition m line ready → (turn (counted m) ready.judged).next ≡ (step edition m line).next
+pub step_outcome : (m : Machine) (edition : ℕ) (line : List ℕ) (choice : Option Choice) →
+    (step edition m line choice).outcome ≡ (turn m (judged edition m line) (cycling (accepted_cycle (judged edition m line)) choice)).outcome
 unfolding step
-step_of_turn m edition line ready made = ap (λ j. (turn (counted m) j).next) made.judged
+step_outcome m edition line choice = outcome_counted m (judged edition m line) (cycling (accepted_cycle (judged edition m line)) choice)
 
-pub step_outcome : (m : Machine) (edition : ℕ) (line : List ℕ) → (step edition m line).outcome ≡ (turn m (judged edition m line)).outcome
+-- where a choice is there exactly for a cycle, the answer tells it
+cycle_told : (m : Machine) (j : Judged) (choice : Option Choice) → cycle_in (turn m j (cycling (accepted_cycle j) choice)).outcome ≡ cycling (accepted_cycle j) choice
+unfolding report_of
+cycle_told m judgements.Form choice = refl
+cycle_told m judgements.Back choice = refl
+cycle_told m (judgements.No t code) choice = refl
+cycle_told m (judgements.Yes t (Cycle budget)) None = refl
+cycle_told m (judgements.Yes t (Cycle budget)) (Some choice) = refl
+cycle_told m (judgements.Yes t (Part account)) choice = refl
+cycle_told m (judgements.Yes t (Inst code price)) choice = refl
+cycle_told m (judgements.Yes t (Issue account asset n)) choice = refl
+cycle_told m (judgements.Yes t (Draw account asset n)) choice = refl
+cycle_told m (judgements.Yes t (Dvp id seller buyer code quantity amount)) choice = refl
+cycle_told m (judgements.Yes t (Fop id from to code quantity)) choice = refl
+cycle_told m (judgements.Yes t (Pay id from to amount)) choice = refl
+cycle_told m (judgements.Yes t (Cancel id)) choice = refl
+cycle_told m (judgements.Yes t (Settle id)) choice = refl
+cycle_told m (judgements.Yes t (Cutoff kind moment)) choice = refl
+cycle_told m (judgements.Yes t Queue) choice = refl
+cycle_told m (judgements.Yes t Close) choice = refl
+cycle_told m (judgements.Yes t (Stat account)) choice = refl
+cycle_told m (judgements.Yes t (Ledger account)) choice = refl
+cycle_told m (judgements.Yes t (Earmark account asset n)) choice = refl
+cycle_told m (judgements.Yes t (Release account asset n)) choice = refl
+cycle_told m (judgements.Yes t (Link first second)) choice = refl
+cycle_told m (judgements.Yes t (Rank id rank)) choice = refl
+
+pub step_of_turn : (m : Machine) (edition : ℕ) (line : List ℕ) (choice : Option Choice) (ready : ReadyRecord) → IsReady edition m line choice ready →
+    (turn (counted m) ready.judged (cycle_in ready.outcome)).next ≡ (step edition m line choice).next
 unfolding step
-step_outcome m edition line = outcome_counted m (judged edition m line)
+step_of_turn m edition line choice ready made =
+    ap (λ j. (turn (counted m) j (cycle_in ready.outcome)).next) made.judged
+    ∙ ap (λ c. (turn (counted m) (judged edition m line) c).next) (ap cycle_in (made.outcome ∙ step_outcome m edition line choice) ∙ cycle_told m (judged edition m line) choice)
 
 -- an accepted judgement was allowed
 pub judged_allowed : (m : Machine) (edition : ℕ) (line : List ℕ) (j : Judged) → j ≡ judged edition m line → IsAllowed m j
 unfolding judged
-judged_allowed m edition line j is = subst (IsAllowed m) (sym is) (by (command_in edition line))
+judged_allowed m edition line j is = subst (IsAllowed m) (sym is) (by (command_of edition line))
   where
     allowed_by : (c : Command) (o : Option Code) → o ≡ verdict m c → IsAllowed m (judged_by c o)
     allowed_by c None e = by_closed (m.closed && not (is_report c.verb)) (sym e)
@@ -158,10 +204,107 @@ judged_allowed m edition line j is = subst (IsAllowed m) (sym is) (by (command_i
         at false = allowed_by c (verdict m c) refl
 
 -- what is ready for a judgement is ready for its line
-pub line_ready : {E : Type 0} (r : Result ReadyRecord E) (edition : ℕ) (m : Machine) (line : List ℕ) (j : Judged) → j ≡ judged edition m line → IfOk r (IsMadeReady m j) → IfOk r (IsReady edition m line)
-line_ready (Ok ready) edition m line j is made = record {
+pub line_ready : {E : Type 0} (r : Result ReadyRecord E) (edition : ℕ) (m : Machine) (line : List ℕ) (choice : Option Choice) (j : Judged) → j ≡ judged edition m line →
+    IfOk r (IsMadeReady m j (cycling (accepted_cycle j) choice)) → IfOk r (IsReady edition m line choice)
+line_ready (Ok ready) edition m line choice j is made = record {
   judged = made.judged ∙ is;
-  outcome = made.outcome ∙ ap (λ k. (turn m k).outcome) is ∙ sym (step_outcome m edition line);
+  outcome = made.outcome ∙ ap (λ k. (turn m k (cycling (accepted_cycle k) choice)).outcome) is ∙ sym (step_outcome m edition line choice);
   number = made.number;
 }
-line_ready (Err e) edition m line j is made = tt
+line_ready (Err e) edition m line choice j is made = tt
+
+-- a choice is there exactly for a cycle, so where one of both is missing there is no cycle to book
+pub no_cycle : (m : Machine) (c : Option (ℕ × ℕ)) (choice : Option Choice) → HasChoice m c choice → ((p : ℕ × ℕ) (d : Choice) → c ≡ Some p → choice ≡ Some d → ⊥) → cycling c choice ≡ None
+no_cycle m None None has none = refl
+no_cycle m None (Some d) has none = refl
+no_cycle m (Some p) None has none = refl
+no_cycle m (Some p) (Some d) has none = absurd (none p d refl refl)
+
+-- what isn't answered by a cycle reports nothing
+pub plain_reported : (m : Machine) (j : Judged) → IsReported (turn m j None).outcome
+plain_reported m judgements.Form = tt
+plain_reported m judgements.Back = tt
+plain_reported m (judgements.No t code) = tt
+plain_reported m (judgements.Yes t (Part account)) = tt
+plain_reported m (judgements.Yes t (Inst code price)) = tt
+plain_reported m (judgements.Yes t (Issue account asset n)) = tt
+plain_reported m (judgements.Yes t (Draw account asset n)) = tt
+plain_reported m (judgements.Yes t (Dvp id seller buyer code quantity amount)) = tt
+plain_reported m (judgements.Yes t (Fop id from to code quantity)) = tt
+plain_reported m (judgements.Yes t (Pay id from to amount)) = tt
+plain_reported m (judgements.Yes t (Cancel id)) = tt
+plain_reported m (judgements.Yes t (Settle id)) = tt
+plain_reported m (judgements.Yes t (Cutoff kind moment)) = tt
+plain_reported m (judgements.Yes t (Cycle budget)) = tt
+plain_reported m (judgements.Yes t Queue) = tt
+plain_reported m (judgements.Yes t Close) = tt
+plain_reported m (judgements.Yes t (Stat account)) = tt
+plain_reported m (judgements.Yes t (Ledger account)) = tt
+plain_reported m (judgements.Yes t (Earmark account asset n)) = tt
+plain_reported m (judgements.Yes t (Release account asset n)) = tt
+plain_reported m (judgements.Yes t (Link first second)) = tt
+plain_reported m (judgements.Yes t (Rank id rank)) = tt
+
+-- what is no cycle's answer has none
+pub no_cycle_told : (o : Outcome) → ((report : CycleReport) → o ≡ outcomes.Cycle report → ⊥) → cycle_in o ≡ None
+no_cycle_told outcomes.Done none = refl
+no_cycle_told (outcomes.No code) none = refl
+no_cycle_told (outcomes.Cycle report) none = absurd (none report refl)
+no_cycle_told (outcomes.Queue rows) none = refl
+no_cycle_told (outcomes.Stat pairs ids) none = refl
+no_cycle_told (outcomes.Ledger rows) none = refl
+
+-- the turn of an accepted verb that is no cycle
+pub plain_turn : (m : Machine) (j : Judged) (t : ℕ) (verb : Verb) (o : Outcome) → j ≡ judgements.Yes t verb → cycle_in o ≡ None → (turn m j (cycle_in o)).next ≡ accepted (at_moment m t) verb
+plain_turn m j t verb o is none = ap (λ (k : Judged). (turn m k (cycle_in o)).next) is ∙ ap (λ (c : Option Cycling). (turn m (judgements.Yes t verb) c).next) none
+
+-- the judged line of an accepted CYCLE
+pub accepted_is : (j : Judged) (c : ℕ × ℕ) → accepted_cycle j ≡ Some c → j ≡ judgements.Yes c.0 (Cycle c.1)
+accepted_is judgements.Form c e = absurd (cc)
+accepted_is judgements.Back c e = absurd (cc)
+accepted_is (judgements.No t code) c e = absurd (cc)
+accepted_is (judgements.Yes t (Cycle budget)) c e = ap (λ (o : Option (ℕ × ℕ)). at o) e
+  where
+    at : Option (ℕ × ℕ) → Judged
+    at (Some d) = judgements.Yes d.0 (Cycle d.1)
+    at None = judgements.Form
+accepted_is (judgements.Yes t (Part account)) c e = absurd (cc)
+accepted_is (judgements.Yes t (Inst code price)) c e = absurd (cc)
+accepted_is (judgements.Yes t (Issue account asset n)) c e = absurd (cc)
+accepted_is (judgements.Yes t (Draw account asset n)) c e = absurd (cc)
+accepted_is (judgements.Yes t (Dvp id seller buyer code quantity amount)) c e = absurd (cc)
+accepted_is (judgements.Yes t (Fop id from to code quantity)) c e = absurd (cc)
+accepted_is (judgements.Yes t (Pay id from to amount)) c e = absurd (cc)
+accepted_is (judgements.Yes t (Cancel id)) c e = absurd (cc)
+accepted_is (judgements.Yes t (Settle id)) c e = absurd (cc)
+accepted_is (judgements.Yes t (Cutoff kind moment)) c e = absurd (cc)
+accepted_is (judgements.Yes t Queue) c e = absurd (cc)
+accepted_is (judgements.Yes t Close) c e = absurd (cc)
+accepted_is (judgements.Yes t (Stat account)) c e = absurd (cc)
+accepted_is (judgements.Yes t (Ledger account)) c e = absurd (cc)
+accepted_is (judgements.Yes t (Earmark account asset n)) c e = absurd (cc)
+accepted_is (judgements.Yes t (Release account asset n)) c e = absurd (cc)
+accepted_is (judgements.Yes t (Link first second)) c e = absurd (cc)
+accepted_is (judgements.Yes t (Rank id rank)) c e = absurd (cc)
+
+-- what is ready for an accepted CYCLE is ready for its line
+pub cycle_ready : {E : Type 0} (r : Result ReadyRecord E) (edition : ℕ) (m : Machine) (line : List ℕ) (choice : Option Choice) (d : Choice) (j : Judged) (c : ℕ × ℕ) → j ≡ judged edition m line →
+    accepted_cycle j ≡ Some c → choice ≡ Some d → IfOk r (IsMadeReady m (judgements.Yes c.0 (Cycle c.1)) (Some (record { budget = c.1; choice = d }))) → IfOk r (IsReady edition m line choice)
+cycle_ready r edition m line choice d j c is accepted there made =
+    line_ready r edition m line choice j is
+    (subst (λ (o : Option Cycling). IfOk r (IsMadeReady m j o)) (sym (ap (λ (o : Option (ℕ × ℕ)). cycling o choice) accepted ∙ ap (cycling (Some c)) there))
+    (subst (λ (k : Judged). IfOk r (IsMadeReady m k (Some (record { budget = c.1; choice = d })))) (sym (accepted_is j c accepted)) made))
+
+-- and so is what is ready for any other
+pub plain_ready : {E : Type 0} (r : Result ReadyRecord E) (edition : ℕ) (m : Machine) (line : List ℕ) (choice : Option Choice) (j : Judged) → j ≡ judged edition m line →
+    HasChoice m (accepted_cycle j) choice → ((p : ℕ × ℕ) (d : Choice) → accepted_cycle j ≡ Some p → choice ≡ Some d → ⊥) → IfOk r (IsMadeReady m j None) → IfOk r (IsReady edition m line choice)
+plain_ready r edition m line choice j is has none made =
+    line_ready r edition m line choice j is (subst (λ (o : Option Cycling). IfOk r (IsMadeReady m j o)) (sym (no_cycle m (accepted_cycle j) choice has none)) made)
+
+-- the turns that change no more than the moment
+pub same_turn : (m : Machine) (j : Judged) (cycle : Option Cycling) → (j ≡ judgements.Form) ⊎ (j ≡ judgements.Back) → (turn m j cycle).next ≡ m
+same_turn m j cycle (inl e) = ap (λ k. (turn m k cycle).next) e
+same_turn m j cycle (inr e) = ap (λ k. (turn m k cycle).next) e
+
+pub moved_turn : (m : Machine) (j : Judged) (cycle : Option Cycling) (t : ℕ) (code : Code) → j ≡ judgements.No t code → (turn m j cycle).next ≡ at_moment m t
+moved_turn m j cycle t code e = ap (λ k. (turn m k cycle).next) e

@@ -4,7 +4,10 @@ pub mod Entering
 pub mod Opening
 pub mod Booking
 pub mod UnitVerbs
-pub mod NetFor
+pub mod Several
+pub mod Cycling
+pub mod Choosing
+pub mod MadeReady
 pub mod Placing
 pub mod Shortness
 pub mod Settling

@@ -1,4 +1,4 @@
-use Rattle.std.proofs.Common.{◌≡◌, ℕ, ◌+◌, ◌-◌, pos, neg_ℤ, ◌+ℤ◌, ◌-ℤ◌, Bool, true, false, not, List, [], ◌∷◌, ◌++◌, Option, Some, None, nat_lt, refl, ap, ◌∙◌, subst, arith}
+use Rattle.std.proofs.Common.{◌≡◌, ℕ, ◌+◌, ◌-◌, pos, neg_ℤ, ◌+ℤ◌, ◌-ℤ◌, Bool, true, false, not, List, [], ◌∷◌, ◌++◌, Option, Some, None, nat_lt, refl, sym, ap, ◌∙◌, subst, arith}
 use Rattle.std.proofs.lemmas.Int.{ints}
 use Rattle.std.proofs.lemmas.List.Sums.{sum_by_push}
 use Rattle.dali_account.specs.Book.{same_name, has_account, knows_pair, balance_of, earmark_of, total_of, with_pair}
@@ -10,7 +10,9 @@ use Rattle.dali_queue.specs.declared.instruction.Instruction.{Instruction}
 use Rattle.dali_queue.specs.Queue.{item_of}
 use Rattle.dali_line.specs.declared.command.Verb.{Verb}
 use Rattle.dali_line.specs.declared.command.Verb.TheVariants as verbs
-use Rattle.dali_machine.specs.Machine.{Machine}
+use Rattle.std.specs.Prelude.{IfSome}
+use Rattle.dali_machine.specs.Cycles.{Cycling}
+use Rattle.dali_machine.specs.Machine.{Machine, StateRecord}
 use Rattle.dali_machine.specs.Kept.{IsMachine}
 use Rattle.dali_machine.specs.declared.outcome.Code.TheVariants.{Name, Total, Short}
 use Rattle.dali_machine.specs.declared.judged.Judged.{Judged}
@@ -18,10 +20,11 @@ use Rattle.dali_machine.specs.declared.judged.Judged.TheVariants as judgements
 use Rattle.dali_machine.specs.Refusals.{refusal}
 use Rattle.dali_machine.specs.Effects.{accepted, settled}
 use Rattle.dali_machine.specs.Step.{counted, at_moment, turn}
-use Rattle.dali_machine.specs.Ready.{IsAllowed}
-use Rattle.dali_machine.specs.Totals.{total_change, KeepsTotals}
+use Rattle.dali_machine.specs.Ready.{ReadyRecord, IsAllowed, CanBook, CanCommit, cycle_in}
+use Rattle.dali_machine.specs.Totals.{total_change, judged_change, KeepsTotals}
 use Rattle.dali_machine.proofs.Allowed.{none_first, none_after, is_true, not_above, part_new}
 use Rattle.dali_machine.proofs.Committing.{refusal_counted}
+use Rattle.dali_machine.proofs.Cycling.{set_ready, set_taken, set_total}
 use Rattle.dali_machine.proofs.Settling.{total_same}
 
 same_total : (n : ℕ) → pos n ≡ pos n +ℤ pos 0
@@ -135,11 +138,32 @@ module _ (m : Machine) (kept : IsMachine m) where
 counted_kept : (m : Machine) (t : ℕ) → IsMachine m → IsMachine (at_moment (counted m) t)
 counted_kept m t kept = record { matched = kept.matched; owned = kept.owned; earmarked = kept.earmarked; distinct = kept.distinct; limit = kept.limit; prices = kept.prices; known = kept.known }
 
+-- a cycle moves units between accounts, and makes none
+cycled_totals : (s : StateRecord) (t : ℕ) (verb : Verb) (ready : ReadyRecord) (c : Cycling) → IsMachine s.machine → (can : CanCommit s ready) → (told : cycle_in ready.outcome ≡ Some c) → (is : ready.judged ≡ judgements.Yes t verb) → (q : List ℕ) →
+    pos (total_of (turn (counted s.machine) ready.judged (cycle_in ready.outcome)).next.book q) ≡ pos (total_of s.machine.book q) +ℤ pos 0
+cycled_totals s t verb ready c kept can told is q =
+    let set = set_ready s t verb ready c can told is in
+    ap (λ (m : Machine). pos (total_of m.book q)) (sym (set_taken s t verb ready c can told is))
+    ∙ ap pos (set_total (record s { machine = at_moment (counted s.machine) t }) ready.places ready.net (counted_kept s.machine t kept) set q)
+    ∙ same_total (total_of s.machine.book q)
+
 -- a judged line that is allowed keeps the totals
-pub turn_totals : (m : Machine) (j : Judged) → IsMachine m → IsAllowed m j → KeepsTotals j m.book (turn (counted m) j).next.book
-turn_totals m judgements.Form kept allowed = record { totals = λ q. same_total (total_of m.book q) }
-turn_totals m judgements.Back kept allowed = record { totals = λ q. same_total (total_of m.book q) }
-turn_totals m (judgements.No t code) kept allowed = record { totals = λ q. same_total (total_of m.book q) }
-turn_totals m (judgements.Yes t verb) kept allowed = record {
-  totals = λ q. accepted_totals (at_moment (counted m) t) (counted_kept m t kept) t verb (refusal_counted m t t verb ∙ allowed) q;
-}
+pub turn_totals : (s : StateRecord) (ready : ReadyRecord) → IsMachine s.machine → CanCommit s ready → KeepsTotals ready.judged s.machine.book (turn (counted s.machine) ready.judged (cycle_in ready.outcome)).next.book
+turn_totals s ready kept can = by_cycle (cycle_in ready.outcome) refl
+  where
+    plain : (j : Judged) → IsAllowed s.machine j → KeepsTotals j s.machine.book (turn (counted s.machine) j None).next.book
+    plain judgements.Form allowed = record { totals = λ q. same_total (total_of s.machine.book q) }
+    plain judgements.Back allowed = record { totals = λ q. same_total (total_of s.machine.book q) }
+    plain (judgements.No t code) allowed = record { totals = λ q. same_total (total_of s.machine.book q) }
+    plain (judgements.Yes t verb) allowed = record {
+      totals = λ q. accepted_totals (at_moment (counted s.machine) t) (counted_kept s.machine t kept) t verb (refusal_counted s.machine t t verb ∙ allowed) q;
+    }
+
+    by_cycle : (o : Option Cycling) → cycle_in ready.outcome ≡ o → KeepsTotals ready.judged s.machine.book (turn (counted s.machine) ready.judged (cycle_in ready.outcome)).next.book
+    by_cycle None told = subst (λ (o : Option Cycling). KeepsTotals ready.judged s.machine.book (turn (counted s.machine) ready.judged o).next.book) (sym told) (plain ready.judged can.allowed)
+    by_cycle (Some c) told =
+        let book : CanBook s.machine ready c = subst (λ (o : Option Cycling). IfSome o (CanBook s.machine ready)) told can.cycle in
+        record {
+          totals = λ q. cycled_totals s book.moment (verbs.Cycle c.budget) ready c kept can told book.judged q
+              ∙ ap (λ j. pos (total_of s.machine.book q) +ℤ judged_change j q) (sym book.judged);
+        }

@@ -1,45 +1,25 @@
-use Rattle.std.specs.Prelude.{ℕ, ℤ, pos, neg_ℤ, true, List, [], ◌∷◌, ◌++◌, map, flat_map, Option, Some, None, if◌then◌else◌}
+use Rattle.std.specs.Prelude.{ℕ, ℤ, pos, neg_ℤ, true, List, [], ◌∷◌, ◌++◌, Option, Some, None}
 use Rattle.std.specs.Option.{option_map_or}
-use Rattle.std.specs.FinMap as finite
-use Rattle.std.specs.Ordering.{int_eq}
 use Rattle.dali_base.specs.declared.kind.Kind.TheVariants as kinds
 use Rattle.dali_account.specs.declared.net.Move.{Move}
 use Rattle.dali_account.specs.Book.{BookRecord, cash, issued, drawn, after_earmark, after_release}
 use Rattle.dali_account.specs.Net.{with_net}
-use Rattle.dali_account.specs.Units.{PairKey, pair_cmp}
 use Rattle.dali_ledger.specs.Postings.{posted}
-use Rattle.dali_problem.specs.Sums.{sum_over}
 use Rattle.dali_queue.specs.declared.instruction.Instruction.{Instruction}
 use Rattle.dali_queue.specs.Cutoffs.{with_cutoff}
 use Rattle.dali_queue.specs.Groups.{linked}
-use Rattle.dali_queue.specs.Instruction.{effect}
+use Rattle.dali_queue.specs.NetOf.{net_of}
 use Rattle.dali_queue.specs.Queue.{QueueRecord, entered, without, ranked, item_of}
 use Rattle.dali_line.specs.declared.command.Verb.{Verb}
 use Rattle.dali_line.specs.declared.command.Verb.TheVariants.{Part, Inst, Issue, Draw, Dvp, Fop, Pay, Cancel, Settle, Cutoff, Cycle, Queue, Close, Stat, Ledger, Earmark, Release, Link, Rank}
 use Rattle.dali_machine.specs.Machine.{Machine}
-use Rattle.dali_machine.specs.Refusals.{changed_pairs, worth}
-
--- the moves of these changes at these pairs, without those of 0
-abbrev pub moves_at : (PairKey → ℤ) → List PairKey → List Move
-moves_at change [] = []
-moves_at change (pair ∷ pairs) =
-    if int_eq (change pair) (pos 0)
-    then moves_at change pairs
-    else record { account = pair.0; asset = pair.1; delta = change pair } ∷ moves_at change pairs
-
--- the pairs that these instructions may change, each once, in byte order of account, then of asset
-abbrev pub all_changed_pairs : List Instruction → List PairKey
-all_changed_pairs items = finite.keys (finite.from_entries {R = pair_cmp} (map (λ (pair : PairKey). (pair, tt {0})) (flat_map changed_pairs items)))
-
--- the net of these instructions: all their effects at once
-unfoldable pub net_of : List Instruction → List Move
-net_of items = moves_at (λ pair. sum_over (λ i. effect i pair) items) (all_changed_pairs items)
+use Rattle.dali_machine.specs.Refusals.{worth}
 
 -- one move alone
 abbrev pub one_move : List ℕ → List ℕ → ℤ → List Move
 one_move account asset delta = record { account = account; asset = asset; delta = delta } ∷ []
 
--- the net that an accepted verb books
+-- the net that an accepted verb books, but for a cycle
 unfoldable pub net_for : Machine → Verb → List Move
 net_for m (Issue account asset n) = one_move account asset (pos n)
 net_for m (Draw account asset n) = one_move account asset (neg_ℤ (pos n))
@@ -62,7 +42,8 @@ settled m id (Some i) =
     booked (with_queue m (record m.queue { waiting = without m.queue.waiting id }))
     (record m.book { balances = with_net m.book.balances (net_of (i ∷ [])) }) (net_of (i ∷ []))
 
--- the state after an accepted verb. The number of its command is that of the commands taken.
+-- the state after an accepted verb, but for a cycle with its choice (Cycles.antt). The number of its command is that of
+-- the commands taken.
 unfoldable pub accepted : Machine → Verb → Machine
 accepted m (Part account) = record m { book = record m.book { accounts = m.book.accounts ++ account ∷ [] } }
 accepted m (Inst code price) = record m { book = record m.book { codes = m.book.codes ++ (code, price) ∷ [] } }

@@ -1,8 +1,10 @@
+pub use Rattle.dali_entry.specs.EntryRecord
 pub mod Machine
 pub mod Kept
 pub mod StateKept
 pub mod Refusals
 pub mod Effects
+pub mod Cycles
 pub mod Outcomes
 pub mod Step
 pub mod History

@@ -4,10 +4,11 @@ use Rattle.dali_account.specs.Pairs.{pairs_of}
 use Rattle.dali_statement.specs.Rows.{waiting_rows, held_ids}
 use Rattle.dali_line.specs.declared.command.Verb.{Verb}
 use Rattle.dali_line.specs.declared.command.Verb.TheVariants as verbs
+use Rattle.dali_machine.specs.Cycles.{IsTrueReport}
 use Rattle.dali_machine.specs.Machine.{Machine}
 use Rattle.dali_machine.specs.declared.outcome.Code.{Code}
 use Rattle.dali_machine.specs.declared.outcome.Outcome.{Outcome}
-use Rattle.dali_machine.specs.declared.outcome.Outcome.TheVariants.{Done, No, Queue, Stat, Ledger}
+use Rattle.dali_machine.specs.declared.outcome.Outcome.TheVariants.{Done, No, Cycle, Queue, Stat, Ledger}
 
 abbrev pub refused : Code → Outcome
 refused code = No code
@@ -18,3 +19,8 @@ answered m verbs.Queue = Queue (waiting_rows m.queue)
 answered m (verbs.Stat account) = Stat (pairs_of m.book account) (held_ids m.queue account)
 answered m (verbs.Ledger account) = Ledger (filter (λ p. same_name p.account account) m.postings)
 answered m _ = Done
+
+-- where a cycle is answered, its report is true
+abbrev pub IsReported : Outcome → Type 0
+IsReported (Cycle report) = IsTrueReport report
+IsReported _ = Unit {0}

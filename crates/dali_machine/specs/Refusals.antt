@@ -10,7 +10,7 @@ use Rattle.dali_problem.specs.Rules.{is_negative}
 use Rattle.dali_queue.specs.declared.instruction.Instruction.{Instruction}
 use Rattle.dali_queue.specs.Cutoffs.{cutoff_of}
 use Rattle.dali_queue.specs.Groups.{same_group, group_size}
-use Rattle.dali_queue.specs.Instruction.{effect}
+use Rattle.dali_queue.specs.Instruction.{effect, changed_pairs}
 use Rattle.dali_queue.specs.Limits.{MOST_QUEUED, MOST_LINKED}
 use Rattle.dali_queue.specs.Queue.{is_used, is_queued, item_of}
 use Rattle.dali_line.specs.declared.command.Verb.{Verb}
@@ -52,10 +52,6 @@ worth m code quantity = quantity * unwrap_or (price_of m.book.codes code) 0
 -- the greatest value of an instruction
 abbrev pub MOST_VALUE : ℕ
 MOST_VALUE = 1000000000000000
-
--- the pairs that an instruction may change
-abbrev pub changed_pairs : Instruction → List PairKey
-changed_pairs i = (i.giver, i.code) ∷ (i.taker, i.code) ∷ (i.giver, cash) ∷ (i.taker, cash) ∷ []
 
 -- the instruction alone would leave the pair's balance negative
 abbrev pub lacks : BookRecord → Instruction → PairKey → Bool

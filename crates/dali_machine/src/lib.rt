@@ -9,10 +9,12 @@ mod cash;
 mod judged;
 mod outcome;
 mod ready;
+mod report;
 mod state;
 
 pub use outcome::{Code, Outcome};
 pub use ready::Ready;
+pub use report::{CycleMark, CycleReport};
 pub use state::State;
 
 #[cfg(test)]

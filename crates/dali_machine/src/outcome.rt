@@ -1,3 +1,4 @@
+use crate::report::CycleReport;
 use dali_account::Pairs;
 use dali_ledger::Postings;
 use dali_statement::{Ids, WaitRows};
@@ -37,12 +38,14 @@ pub enum Code {
 }
 
 /// What is answered to a command.
-#[derive(Debug, Drop)]
+#[derive(Drop)]
 pub enum Outcome {
     /// It was accepted, and prints no rows.
     Done,
     /// It was refused.
     No { code: Code },
+    /// The set of a cycle was booked.
+    Cycle { report: CycleReport },
     /// The queued instructions, in queue order.
     Queue { rows: WaitRows },
     /// An account's balances other than 0 in byte order of asset, and the ids of its queued instructions in queue

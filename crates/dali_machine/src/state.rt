@@ -5,6 +5,7 @@ ghost use Rattle.dali_machine.specs.Kept.{IsMachine};
 mod accepting;
 mod booking;
 mod committing;
+mod cycling;
 mod entering;
 mod judging;
 mod preparing;

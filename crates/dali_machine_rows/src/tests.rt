@@ -46,7 +46,8 @@ impl Day {
 
     fn take_line(&mut self, rt: &impl Abort, edition: u8, line: &Line) -> Result<(), Fail> {
         assert!(rt; self.state.commands() < 1_000_000);
-        let ready = self.state.prepare(edition, line)?;
+        assert!(rt; self.state.cycle_input(edition, line)?.is_none());
+        let ready = self.state.prepare(edition, line, None)?;
         let outcome = self.state.commit(ready);
         if !self.answers.is_empty() {
             self.answers.add(b" ")?;
@@ -75,6 +76,7 @@ fn add_answer(answers: &mut Text, outcome: &Outcome) -> Result<(), OutOfMemory> 
             answers.add_number(ids.len() as u64)
         }
         Outcome::Ledger { rows } => answers.add_number(rows.len() as u64),
+        Outcome::Cycle { .. } => answers.add(b"CYCLE"),
     }
 }
 

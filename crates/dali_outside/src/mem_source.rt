@@ -70,6 +70,7 @@ impl Source for MemSource {
         ensures taken { IfOk result (λ n. Takes into.new n self.old.feed self.new.feed) }
         ensures kept { OnErr result (self.new.feed.left ≡ self.old.feed.left) }
         ensures faults { self.old.feed.faults ≤ self.new.feed.faults }
+        ensures quiet { OnOk result (self.new.feed.faults ≡ self.old.feed.faults) }
         ensures failed { OnErr result (Rose self.old.feed.faults self.new.feed.faults) }
         ensures listed { is_ok result ≡ not (take_fails self.old) }
         ensures amount { IfOk result (λ n. n ≡ given self.old (length into.old)) }

@@ -1,4 +1,4 @@
-ghost use Rattle.std.specs.Prelude.{◌≡◌, ◌≤◌, Bool, length, IfOk, OnErr, IsTrue};
+ghost use Rattle.std.specs.Prelude.{◌≡◌, ◌≤◌, Bool, length, IfOk, OnOk, OnErr, IsTrue};
 ghost use Rattle.dali_outside.specs.Outside.{Feed, Rose, Takes};
 
 use crate::fault::Failed;
@@ -15,11 +15,12 @@ pub trait Source {
     /// empty, 0 is the end of input.
     ///
     /// `Failed` comes only where the count of faults rose, or stands at u64's last value. The bytes left are then as
-    /// before.
+    /// before. Where it doesn't come, the count stays, so a call that failed shows in it.
     fn take(&mut self, into: &mut [u8]) -> Result<usize, Failed>
         ensures within { IfOk result (λ n. n ≤ length into.old) }
         ensures taken { IsTrue tells → IfOk result (λ n. Takes into.new n (feed self.old) (feed self.new)) }
         ensures kept { IsTrue tells → OnErr result ((feed self.new).left ≡ (feed self.old).left) }
         ensures faults { (feed self.old).faults ≤ (feed self.new).faults }
+        ensures quiet { OnOk result ((feed self.new).faults ≡ (feed self.old).faults) }
         ensures failed { OnErr result (Rose (feed self.old).faults (feed self.new).faults) };
 }

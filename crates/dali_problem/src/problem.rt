@@ -1,5 +1,6 @@
-ghost use Rattle.std.specs.Prelude.{◌≡◌, ◌≢◌, ℕ, ◌+◌, ◌*◌, ◌^◌, ◌<◌, ◌≤◌, List, [], ◌∷◌, ◌++◌, length, IfOk, OnOk, OnErr, sum_by};
+ghost use Rattle.std.specs.Prelude.{◌≡◌, ◌≢◌, ℕ, ◌+◌, ◌<◌, ◌≤◌, List, [], ◌∷◌, ◌++◌, length, IfOk, OnOk, OnErr, sum_by};
 ghost use Rattle.std.specs.List.{All};
+ghost use Rattle.dali_base.specs.Limits.{most_balance, most_lines, most_items, most_worth, most_worths};
 ghost use Rattle.dali_problem.specs.Clearing.{line_at, item_at};
 ghost use Rattle.dali_problem.specs.Limits.{IsBefore, AreEffects, IsProblem};
 
@@ -19,7 +20,7 @@ struct ItemRow {
 
 /// A clearing problem: up to 4,096 lines in rising byte order of account, then of asset, and up to 1,024 items.
 ///
-/// The limits stand in `specs/Limits.antt`.
+/// What a problem is stands in `specs/Limits.antt`, and the limits in the page of that name of `dali_base`.
 #[derive(Debug, Drop)]
 pub struct Problem {
     lines: Vec<LineRow>,
@@ -55,9 +56,9 @@ impl Problem {
     /// stays as it was.
     pub fn add_line(&mut self, row: LineRow) -> Result<u32, OutOfMemory>
         requires no_items { self.old.items ≡ [] }
-        requires few { length self.old.lines < 4096 }
+        requires few { length self.old.lines < most_lines }
         requires after { (k : ℕ) → k + 1 ≡ length self.old.lines → IsBefore (line_at self.old k) row }
-        requires balance { row.balance ≤ 10 ^ 18 }
+        requires balance { row.balance ≤ most_balance }
         ensures number { IfOk result (λ at. at ≡ length self.old.lines) }
         ensures added { OnOk result (self.new ≡ record self.old { lines = self.old.lines ++ row ∷ [] }) }
         ensures err { OnErr result (self.new ≡ self.old) }
@@ -71,11 +72,11 @@ impl Problem {
     /// together are at most 16,384 * 10^15. The effects stand on rising lines: 0 to 32, none of them 0, each at most
     /// 8 * 10^15 in size. At want of memory the problem stays as it was.
     pub fn add_item(&mut self, id: Name, value: u64, effects: &[Effect]) -> Result<u32, OutOfMemory>
-        requires few { length self.old.items < 1024 }
+        requires few { length self.old.items < most_items }
         requires new_id { All (λ item. item.id ≢ id) self.old.items }
         requires value_low { 1 ≤ value }
-        requires value_high { value ≤ 128 * 10 ^ 15 }
-        requires total { sum_by (λ item. item.value) self.old.items + value ≤ 16384 * 10 ^ 15 }
+        requires value_high { value ≤ most_worth }
+        requires total { sum_by (λ item. item.value) self.old.items + value ≤ most_worths }
         requires effects { AreEffects (length self.old.lines) effects.now }
         ensures place { IfOk result (λ at. at ≡ length self.old.items) }
         ensures added { OnOk result (self.new

@@ -2,3 +2,17 @@ pub mod EntryLemmas
 pub mod ChangeLemmas
 pub mod QueueLemmas
 pub mod NetLemmas
+pub mod PairOrder
+pub mod NetItems
+pub mod Grouping
+pub mod Bridging
+pub mod NameLemmas
+pub mod PlaceLists
+pub mod GroupSums
+pub mod LineLemmas
+pub mod ProblemFits
+pub mod Gathering
+pub mod LateLemmas
+pub mod DraftLemmas
+pub mod CycleInputs
+pub mod GroupLemmas

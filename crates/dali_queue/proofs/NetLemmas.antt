@@ -87,7 +87,7 @@ moved_within units asset giver taker pair few = both (same_name giver pair.0 && 
     both false true = record { low = omega (arith, ints, few); high = omega (arith, ints, few) }
     both false false = record { low = omega (arith, ints, few); high = omega (arith, ints, few) }
 
-cash_fits : (kind : Kind) (n : ℕ) → IsCash kind n → n ≤ 1000000000000000
+pub cash_fits : (kind : Kind) (n : ℕ) → IsCash kind n → n ≤ 1000000000000000
 cash_fits Dvp n kept = kept.to_most
 cash_fits Fop n kept = omega (arith, kept)
 cash_fits Pay n kept = omega (arith, kept)
@@ -275,7 +275,7 @@ rising_at ps rising (suc k) within =
     let step = rising k (suc k) 0 (omega arith) within in
     omega (arith, before, step)
 
-few_places : (n : ℕ) (ps : List ℕ) → AllPairs (λ i j. i < j) ps → All (λ p. p < n) ps → length ps ≤ n
+pub few_places : (n : ℕ) (ps : List ℕ) → AllPairs (λ i j. i < j) ps → All (λ p. p < n) ps → length ps ≤ n
 few_places n [] rising below = omega arith
 few_places n (p ∷ ps) rising below =
     let last = rising_at (p ∷ ps) rising (length ps) (omega arith) in

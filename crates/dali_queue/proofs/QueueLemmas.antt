@@ -17,11 +17,11 @@ use Rattle.dali_queue.specs.Queue.{Queued, QueueRecord, id_of, find, is_queued, 
 use Rattle.dali_queue.specs.Groups.{in_group, group_of, group_size, with_group, regrouped}
 use Rattle.dali_queue.specs.Limits.{IsQueue}
 
-abbrev bit : Bool → ℕ
+abbrev pub bit : Bool → ℕ
 bit b = cond b 1 0
 
 -- how many are in a group, of one more
-count_cons : (g : List ℕ) (w : Queued) (ws : List Queued) → count_by (in_group g) (w ∷ ws) ≡ bit (in_group g w) + count_by (in_group g) ws
+pub count_cons : (g : List ℕ) (w : Queued) (ws : List Queued) → count_by (in_group g) (w ∷ ws) ≡ bit (in_group g w) + count_by (in_group g) ws
 count_cons g w ws = sum_by-cons (λ v. cond (in_group g v) 1 0) w ws
 
 -- an id that is used stays so
@@ -36,7 +36,7 @@ now_used used id = list_any-append (same_name id) used (id ∷ []) ∙ ap (λ t.
     or_true false = refl
 
 -- names that aren't used differ from those that are
-used_apart : (used : List (List ℕ)) (id name : List ℕ) → list_any (same_name id) used ≡ false → list_any (same_name name) used ≡ true → same_name id name ≡ false
+pub used_apart : (used : List (List ℕ)) (id name : List ℕ) → list_any (same_name id) used ≡ false → list_any (same_name name) used ≡ true → same_name id name ≡ false
 used_apart used id name new old = by (same_name id name) refl
   where
     by : (b : Bool) → same_name id name ≡ b → b ≡ false
@@ -44,7 +44,7 @@ used_apart used id name new old = by (same_name id name) refl
     by true told = absurd (true≢false (sym old ∙ ap (λ n. list_any (same_name n) used) (sym (same_name_is id name told)) ∙ new))
 
 -- no instruction is in a group whose name isn't used
-count_none : (used : List (List ℕ)) (id : List ℕ) (ws : List Queued) → list_any (same_name id) used ≡ false → AllByRecursion (λ (w : Queued). IsTrue (list_any (same_name w.group) used)) ws → count_by (in_group id) ws ≡ 0
+pub count_none : (used : List (List ℕ)) (id : List ℕ) (ws : List Queued) → list_any (same_name id) used ≡ false → AllByRecursion (λ (w : Queued). IsTrue (list_any (same_name w.group) used)) ws → count_by (in_group id) ws ≡ 0
 count_none used id [] new old = refl
 count_none used id (w ∷ ws) new old =
     let rest = count_none used id ws new old.1 in
@@ -308,7 +308,7 @@ module _ (from to : List ℕ) where
       by g false told = let fewer = count_else g told q.waiting in let before = kept.linked g in omega (arith, fewer, before)
 
 -- the group of a queued instruction is used
-group_used : (used : List (List ℕ)) (ws : List Queued) (id g : List ℕ) → AllByRecursion (λ (w : Queued). IsTrue (list_any (same_name w.group) used)) ws → group_of ws id ≡ Some g → IsTrue (list_any (same_name g) used)
+pub group_used : (used : List (List ℕ)) (ws : List Queued) (id g : List ℕ) → AllByRecursion (λ (w : Queued). IsTrue (list_any (same_name w.group) used)) ws → group_of ws id ≡ Some g → IsTrue (list_any (same_name g) used)
 group_used used [] id g all there = absurd (cc)
 group_used used (w ∷ ws) id g all there = by (same_name id w.item.id) refl (group_used used ws id g all.1)
   where

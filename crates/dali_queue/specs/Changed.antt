@@ -1,17 +1,19 @@
-use Rattle.std.specs.Prelude.{ℕ, ℤ, pos, List, [], ◌∷◌, unwrap_or, if◌then◌else◌}
+use Rattle.std.specs.Prelude.{ℕ, ◌*◌, ℤ, pos, List, [], ◌∷◌, unwrap_or, if◌then◌else◌}
 use Rattle.std.specs.Ordering.{int_eq}
 use Rattle.std.specs.BTreeMap.{BTreeMap, get}
+use Rattle.dali_base.specs.Limits.{most_quantity}
 use Rattle.dali_account.specs.declared.net.Move.{Move}
 use Rattle.dali_account.specs.Units.{PairKey, pair_cmp}
 use Rattle.dali_problem.specs.Limits.{Within}
+use Rattle.dali_queue.specs.Limits.{MOST_QUEUED}
 
 -- the change of a pair so far
 abbrev pub change_of : BTreeMap PairKey ℤ → PairKey → ℤ
 change_of m pair = unwrap_or (get pair_cmp m pair) (pos 0)
 
--- how great the changes of a full queue may be
+-- how great the changes of a full queue may be: each instruction may move its quantity and its cash
 abbrev pub ROOM : ℕ
-ROOM = 2048000000000000000
+ROOM = MOST_QUEUED * (2 * most_quantity)
 
 -- less than half of what an i64 holds
 abbrev pub HALF : ℕ

@@ -1,4 +1,4 @@
-use Rattle.std.specs.Prelude.{ℕ, ◌||◌, Bool, not, false, List, map, Option, nat_le, if◌then◌else◌}
+use Rattle.std.specs.Prelude.{◌≡◌, ℕ, ◌+◌, ◌||◌, ◌&&◌, Bool, not, true, false, List, map, Option, nat_le, if◌then◌else◌}
 use Rattle.std.specs.List.{list_all, count_by}
 use Rattle.std.specs.Option.{option_map, option_map_or}
 use Rattle.dali_account.specs.Book.{same_name}
@@ -35,3 +35,22 @@ linked ws first second = option_map_or (λ to. option_map_or (λ from. regrouped
 -- whether a group is eligible at a moment: the cut-off of each of its instructions' kinds is at least the moment
 abbrev pub is_eligible : QueueRecord → ℕ → List ℕ → Bool
 is_eligible q moment group = list_all (λ w. not (in_group group w) || nat_le moment (cutoff_of q.cutoffs w.item.kind)) q.waiting
+
+-- an instruction is in a group by itself: its group has one, no other is in one group with it, and the others are in one
+-- group as before
+pub record EntersAlone (old new : List Queued) (id : List ℕ) : Type 0 where
+  pub size : group_size new id ≡ 1
+  pub alone : (other : List ℕ) → same_name other id ≡ false → same_group new id other ≡ false
+  pub others : (one other : List ℕ) → same_name one id ≡ false → same_name other id ≡ false → same_group new one other ≡ same_group old one other
+
+-- whether the instruction is in the group of one or of the other of these two
+abbrev pub in_either : List Queued → List ℕ → List ℕ → List ℕ → Bool
+in_either ws first second id = same_group ws first id || same_group ws second id
+
+-- two groups are made one: its size is the sum of theirs, and two instructions are in one group exactly where they were, or
+-- where each was in one of the two
+pub record MakesOne (old new : List Queued) (first second : List ℕ) : Type 0 where
+  pub size : group_size new first ≡ group_size old first + group_size old second
+  pub together : same_group new first second ≡ true
+  pub pairs : (one other : List ℕ) → same_group new one other
+      ≡ (same_group old one other || (in_either old first second one && in_either old first second other))

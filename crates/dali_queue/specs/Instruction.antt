@@ -1,4 +1,5 @@
-use Rattle.std.specs.Prelude.{◌≡◌, ℕ, ◌≤◌, ◌&&◌, ℤ, pos, ◌+ℤ◌, ◌-ℤ◌, Bool, true, false, List}
+use Rattle.std.specs.Prelude.{◌≡◌, ℕ, ◌≤◌, ◌*◌, ◌&&◌, ℤ, pos, ◌+ℤ◌, ◌-ℤ◌, Bool, true, false, List, [], ◌∷◌}
+use Rattle.dali_base.specs.Limits.{most_quantity, most_rank}
 use Rattle.dali_base.specs.declared.kind.Kind.{Kind}
 use Rattle.dali_base.specs.declared.kind.Kind.TheVariants.{Dvp, Fop, Pay}
 use Rattle.dali_account.specs.Units.{PairKey}
@@ -19,10 +20,18 @@ moved n asset giver taker pair = at_pair taker asset (pos n) pair -ℤ at_pair g
 unfoldable pub effect : Instruction → PairKey → ℤ
 effect i pair = moved i.quantity i.code i.giver i.taker pair +ℤ moved i.cash cash i.taker i.giver pair
 
--- a quantity, an amount of cash or a value: 1 to 10^15
+-- the pairs that an instruction may change
+abbrev pub changed_pairs : Instruction → List PairKey
+changed_pairs i = (i.giver, i.code) ∷ (i.taker, i.code) ∷ (i.giver, cash) ∷ (i.taker, cash) ∷ []
+
+-- what a cycle counts an instruction for: its value times its rank
+abbrev pub weight : Instruction → ℕ
+weight i = i.value * i.rank
+
+-- a quantity, an amount of cash or a value
 pub record IsAmount (n : ℕ) : Type 0 where
   pub from_one : 1 ≤ n
-  pub to_most : n ≤ 1000000000000000
+  pub to_most : n ≤ most_quantity
 
 abbrev pub is_payment : Kind → Bool
 is_payment Dvp = false
@@ -43,4 +52,4 @@ pub record IsInstruction (i : Instruction) : Type 0 where
   pub cash : IsCash i.kind i.cash
   pub value : IsAmount i.value
   pub rank_low : 1 ≤ i.rank
-  pub rank_high : i.rank ≤ 16
+  pub rank_high : i.rank ≤ most_rank

@@ -4,6 +4,9 @@ pub mod Queue
 pub mod Groups
 pub mod Limits
 pub mod NetOf
+pub mod CycleProblem
+pub mod Eligible
+pub mod Drafts
 pub mod Changed
 pub mod Room
 pub mod EntryList

@@ -1,4 +1,5 @@
 ghost use Rattle.std.specs.Prelude.{◌≡◌, ◌≢◌, ◌+◌, ◌≤◌, ℤ, pos, neg_ℤ, ◌+ℤ◌, List, ℕ, [], ◌∷◌, ◌++◌, IfOk, OnOk};
+ghost use Rattle.dali_base.specs.Limits.{most_quantity};
 ghost use Rattle.dali_account.specs.Units.{PairKey};
 ghost use Rattle.dali_account.specs.Book.{cash};
 ghost use Rattle.dali_account.specs.Net.{IsAfter};
@@ -48,8 +49,8 @@ impl Changes {
         giver: Name,
         taker: Name,
     ) -> Result<(), OutOfMemory>
-        requires units { units ≤ 1000000000000000 }
-        requires room { AreWithin (ROOM + 1000000000000000) self.old.deltas }
+        requires units { units ≤ most_quantity }
+        requires room { AreWithin (ROOM + most_quantity) self.old.deltas }
         ensures { OnOk result ((pair : PairKey) → change_of self.new.deltas pair ≡ change_of self.old.deltas pair +ℤ moved units asset giver taker pair) }
     {
         if units > 0 {
@@ -93,14 +94,14 @@ impl Changes {
 }
 
 fn plus(units: u64) -> i64
-    requires { units ≤ 1000000000000000 }
+    requires { units ≤ most_quantity }
     ensures { result ≡ pos units }
 {
     units as i64
 }
 
 fn minus(units: u64) -> i64
-    requires { units ≤ 1000000000000000 }
+    requires { units ≤ most_quantity }
     ensures { result ≡ neg_ℤ (pos units) }
 {
     -plus(units)

@@ -7,6 +7,7 @@ ghost use Rattle.dali_queue.specs.declared.entries.Entry.{Entry};
 ghost use Rattle.dali_queue.specs.EntryList.{regrouped_entry};
 ghost use Rattle.dali_queue.specs.Queue.{is_queued, item_of, place_in, without, ranked};
 ghost use Rattle.dali_queue.specs.Groups.{in_group, group_of, regrouped};
+ghost use Rattle.dali_queue.specs.Eligible.{waiting_of};
 
 mod leave;
 
@@ -60,6 +61,13 @@ impl Entries {
         ensures { result ≡ length self.now.waiting }
     {
         self.entries.len()
+    }
+
+    /// The entries in order.
+    pub fn list(&self) -> &[Entry]
+        ensures { waiting_of result.now ≡ self.now.waiting }
+    {
+        self.entries.values().as_slice()
     }
 
     /// Makes room for so many more at least.

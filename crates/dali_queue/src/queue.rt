@@ -6,10 +6,12 @@ ghost use Rattle.dali_base.specs.declared.kind.Kind.{Kind};
 ghost use Rattle.dali_queue.specs.Instruction.{IsInstruction};
 ghost use Rattle.dali_queue.specs.Cutoffs.{LAST, cutoff_of, with_cutoff};
 ghost use Rattle.dali_queue.specs.Queue.{is_used, is_queued, item_of, place_in, entered, without, removed};
+ghost use Rattle.dali_queue.specs.Groups.{EntersAlone};
 ghost use Rattle.dali_queue.specs.Limits.{MOST_QUEUED, IsQueue};
 
 mod groups;
 mod net;
+mod problem;
 
 use crate::cutoffs::Cutoffs;
 use crate::entries::Entries;
@@ -78,6 +80,7 @@ impl Queue {
         requires item { IsInstruction item }
         requires rank { item.rank ≡ 1 }
         ensures ok { OnOk result (self.new.queue ≡ entered self.old.queue item) }
+        ensures alone { OnOk result (EntersAlone self.old.queue.waiting self.new.queue.waiting item.id) }
         ensures err { OnErr result (self.new.queue ≡ self.old.queue) }
         ensures spare { 0 < self.old.spare → IsOk result }
         ensures room { self.old.spare ≤ self.new.spare + 1 }

@@ -9,7 +9,11 @@ use Rattle.dali_line.specs.Grammar.{kind_text}
 use Rattle.dali_machine.specs.declared.outcome.Code.{Code}
 use Rattle.dali_machine.specs.declared.outcome.Code.TheVariants.{Form, Back, Closed, There, Full, Name, Total, Short, Cash, SelfDeal, Late, Value, Gone, Linked}
 use Rattle.dali_machine.specs.declared.outcome.Outcome.{Outcome}
-use Rattle.dali_machine.specs.declared.outcome.Outcome.TheVariants.{Done, No, Queue, Stat, Ledger}
+use Rattle.dali_machine.specs.declared.report.CycleMark.{CycleMark}
+use Rattle.dali_machine.specs.declared.report.CycleMark.TheVariants.{Optimal, Unfinished}
+use Rattle.dali_machine.specs.declared.report.CycleReport.{CycleReport}
+use Rattle.dali_cert_text.specs.Block.{block_text}
+use Rattle.dali_machine.specs.declared.outcome.Outcome.TheVariants.{Done, No, Cycle, Queue, Stat, Ledger}
 
 -- A reply is one line or more. Each is a row of text, fields joined by commas and ended by LF: the number k of the
 -- command, the line's word, and that word's fields.
@@ -59,10 +63,24 @@ held_line k id = row_text (decimal k ∷ codes "HELD" ∷ id ∷ [])
 abbrev pub posting_line : ℕ → Posting → List ℕ
 posting_line k p = row_text (decimal k ∷ codes "ROW" ∷ decimal p.number ∷ decimal p.command ∷ p.asset ∷ signed_decimal p.delta ∷ decimal p.after ∷ [])
 
+-- how good the set of a cycle is known to be
+abbrev pub mark_text : CycleMark → List ℕ
+mark_text Optimal = codes "OPTIMAL"
+mark_text Unfinished = codes "UNFINISHED"
+
+-- the first line of a cycle: its mark, value, count, bound and branchings
+abbrev pub cycle_line : ℕ → CycleReport → List ℕ
+cycle_line k r = row_text (decimal k ∷ codes "CYCLE" ∷ mark_text r.mark ∷ decimal r.value ∷ decimal r.count ∷ decimal r.bound ∷ decimal r.branchings ∷ [])
+
+-- a settled instruction
+abbrev pub post_line : ℕ → List ℕ → List ℕ
+post_line k id = row_text (decimal k ∷ codes "POST" ∷ id ∷ [])
+
 -- the reply to command number k, which had this outcome
 abbrev pub reply_text : ℕ → Outcome → List ℕ
 reply_text k Done = ok_line k
 reply_text k (No code) = no_line k code
+reply_text k (Cycle report) = cycle_line k report ++ flat_map (post_line k) report.ids ++ block_text report.problem report.budget report.choice ++ end_line k
 reply_text k (Queue rows) = flat_map (wait_line k) rows ++ end_line k
 reply_text k (Stat pairs ids) = flat_map (balance_line k) pairs ++ flat_map (held_line k) ids ++ end_line k
 reply_text k (Ledger rows) = flat_map (posting_line k) rows ++ end_line k

@@ -1,12 +1,12 @@
 ghost use Rattle.std.specs.Prelude.{◌≡◌, ◌++◌, ◌∷◌, [], OnOk, decimal};
 ghost use Rattle.std.specs.Fmt.{signed_decimal};
-ghost use Rattle.dali_reply.specs.Reply.{ok_line, no_line, end_line, wait_line, balance_line, held_line, posting_line};
+ghost use Rattle.dali_reply.specs.Reply.{ok_line, no_line, end_line, cycle_line, post_line, mark_text, wait_line, balance_line, held_line, posting_line};
 
-use crate::words::{code_word, kind_word};
+use crate::words::{code_word, kind_word, mark_word};
 use dali_account::Pair;
 use dali_base::{Name, OutOfMemory, Text};
 use dali_ledger::Posting;
-use dali_machine::Code;
+use dali_machine::{Code, CycleReport};
 use dali_statement::WaitRow;
 
 /// The line of an accepted command that prints no rows.
@@ -23,6 +23,39 @@ pub(crate) fn add_no(text: &mut Text, number: u64, code: Code) -> Result<(), Out
 {
     begin(text, number, b"NO")?;
     add_field(text, code_word(code))?;
+    end(text)
+}
+
+/// The first line of a cycle.
+pub(crate) fn add_cycle(
+    text: &mut Text,
+    number: u64,
+    report: &CycleReport,
+) -> Result<(), OutOfMemory>
+    ensures { OnOk result (text.new ≡ text.old ++ cycle_line number report.now) }
+{
+    begin(text, number, b"CYCLE")?;
+    add_field(text, mark_word(report.mark))?;
+    add_figures(text, report)?;
+    end(text)
+}
+
+/// What a cycle's first line says behind its mark.
+fn add_figures(text: &mut Text, report: &CycleReport) -> Result<(), OutOfMemory>
+    ensures { OnOk result (text.new ≡ text.old ++ 44 ∷ (decimal report.now.value ++ 44 ∷ (decimal report.now.count ++ 44 ∷ (decimal report.now.bound ++ 44 ∷ decimal report.now.branchings)))) }
+{
+    add_number(text, report.value)?;
+    add_number(text, report.count as u64)?;
+    add_number(text, report.bound)?;
+    add_number(text, report.branchings)
+}
+
+/// The line of a settled instruction.
+pub(crate) fn add_post(text: &mut Text, number: u64, id: &Name) -> Result<(), OutOfMemory>
+    ensures { OnOk result (text.new ≡ text.old ++ post_line number id.now) }
+{
+    begin(text, number, b"POST")?;
+    add_field(text, id.bytes())?;
     end(text)
 }
 

@@ -1,12 +1,18 @@
 ghost use Rattle.std.specs.Prelude.{◌≡◌, ◌++◌, IfOk, OnOk};
 ghost use Rattle.std.specs.List.{flat_map};
-ghost use Rattle.dali_reply.specs.Reply.{wait_line, balance_line, held_line, posting_line, reply_text};
+ghost use Rattle.dali_reply.specs.Reply.{cycle_line, post_line, end_line, wait_line, balance_line, held_line, posting_line, reply_text};
+ghost use Rattle.dali_cert_text.specs.Block.{block_text};
+ghost use Rattle.dali_machine.specs.Cycles.{IsTrueReport};
+ghost use Rattle.dali_machine.specs.Outcomes.{IsReported};
 
-use crate::lines::{add_balance, add_end, add_held, add_no, add_ok, add_posting, add_wait};
+use crate::lines::{
+    add_balance, add_cycle, add_end, add_held, add_no, add_ok, add_post, add_posting, add_wait,
+};
 use dali_account::Pair;
 use dali_base::{Name, OutOfMemory, Text};
+use dali_cert_text::print_block;
 use dali_ledger::Posting;
-use dali_machine::Outcome;
+use dali_machine::{CycleReport, Outcome};
 use dali_statement::WaitRow;
 use std::alloc::Global;
 
@@ -14,21 +20,30 @@ use std::alloc::Global;
 const ROOM: usize = 32;
 
 /// The reply to the command of this number, counted from 1, that had this outcome: its lines, each ended by LF. They
-/// are defined in `specs/Reply.antt`. The error is want of memory.
+/// are defined in `specs/Reply.antt`. A cycle's report is true, as each that the machine answers is. The error is want of
+/// memory.
 pub fn reply(alloc: Global, number: u64, outcome: &Outcome) -> Result<Text, OutOfMemory>
+    requires { IsReported outcome.now }
     ensures { IfOk result (λ text. text ≡ reply_text number outcome.now) }
 {
     let mut text = Text::from_vec(Vec::with_capacity(alloc, ROOM)?);
-    add_outcome(&mut text, number, outcome)?;
+    add_outcome(alloc, &mut text, number, outcome)?;
     Ok(text)
 }
 
-fn add_outcome(text: &mut Text, number: u64, outcome: &Outcome) -> Result<(), OutOfMemory>
+fn add_outcome(
+    alloc: Global,
+    text: &mut Text,
+    number: u64,
+    outcome: &Outcome,
+) -> Result<(), OutOfMemory>
+    requires { IsReported outcome.now }
     ensures { OnOk result (text.new ≡ text.old ++ reply_text number outcome.now) }
 {
     match outcome {
         Outcome::Done => add_ok(text, number),
         Outcome::No { code } => add_no(text, number, *code),
+        Outcome::Cycle { report } => add_report(alloc, text, number, report),
         Outcome::Queue { rows } => {
             add_waiting(text, number, rows.as_slice())?;
             add_end(text, number)
@@ -43,6 +58,34 @@ fn add_outcome(text: &mut Text, number: u64, outcome: &Outcome) -> Result<(), Ou
             add_end(text, number)
         }
     }
+}
+
+/// The lines of a cycle: its figures, the settled instructions, the certificate block and the end.
+fn add_report(
+    alloc: Global,
+    text: &mut Text,
+    number: u64,
+    report: &CycleReport,
+) -> Result<(), OutOfMemory>
+    requires { IsTrueReport report.now }
+    ensures { OnOk result (text.new
+        ≡ text.old ++ (cycle_line number report.now ++ flat_map (post_line number) report.now.ids ++ block_text report.now.problem report.now.budget report.now.choice ++ end_line number)) }
+{
+    add_cycle(text, number, report)?;
+    add_posts(text, number, report.ids.as_slice())?;
+    let block = print_block(alloc, &report.problem, report.budget, &report.choice)?;
+    text.add(block.bytes())?;
+    add_end(text, number)
+}
+
+/// A line for each settled instruction.
+fn add_posts(text: &mut Text, number: u64, ids: &[Name]) -> Result<(), OutOfMemory>
+    ensures { OnOk result (text.new ≡ text.old ++ flat_map (post_line number) ids.now) }
+{
+    for id in ids {
+        add_post(text, number, id)?;
+    }
+    Ok(())
 }
 
 /// A line for each queued instruction, in queue order.

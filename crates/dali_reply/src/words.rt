@@ -1,9 +1,9 @@
 ghost use Rattle.std.specs.Prelude.{◌≡◌};
 ghost use Rattle.dali_line.specs.Grammar.{kind_text};
-ghost use Rattle.dali_reply.specs.Reply.{code_text};
+ghost use Rattle.dali_reply.specs.Reply.{code_text, mark_text};
 
 use dali_base::Kind;
-use dali_machine::Code;
+use dali_machine::{Code, CycleMark};
 
 /// The word that a refusal prints.
 pub(crate) fn code_word(code: Code) -> &'static [u8]
@@ -24,6 +24,16 @@ pub(crate) fn code_word(code: Code) -> &'static [u8]
         Code::Value => b"VALUE",
         Code::Gone => b"GONE",
         Code::Linked => b"LINKED",
+    }
+}
+
+/// The word of a cycle's mark.
+pub(crate) fn mark_word(mark: CycleMark) -> &'static [u8]
+    ensures { result.now ≡ mark_text mark }
+{
+    match mark {
+        CycleMark::Optimal => b"OPTIMAL",
+        CycleMark::Unfinished => b"UNFINISHED",
     }
 }
 

@@ -3,3 +3,4 @@ pub mod Sides
 pub mod Standing
 pub mod Resting
 pub mod Rests
+pub mod Onlys

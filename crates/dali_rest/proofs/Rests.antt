@@ -70,7 +70,7 @@ has_outside members s j there out =
     contains_of (outside members s) j (in_filter (λ k. not (list_any (λ x. eqb x k) s)) members j (is_in_of members j there)
     (ap not (any_is s j ∙ not_in_of s j out)))
 
-outside_has : (members s : List ℕ) (j : ℕ) → Contains (outside members s) j → (Contains members j) × ¬ (Contains s j)
+pub outside_has : (members s : List ℕ) (j : ℕ) → Contains (outside members s) j → (Contains members j) × ¬ (Contains s j)
 outside_has members s j there =
     let both = filter_in (λ k. not (list_any (λ x. eqb x k) s)) members j (is_in_of (outside members s) j there) in (
       contains_of members j both.0,

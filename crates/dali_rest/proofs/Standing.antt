@@ -106,7 +106,7 @@ without_none i (x ∷ xs) off =
       | inr other ↦ ap (λ b. cond (not b) (x ∷ without i xs) (without i xs)) other.0 ∙ ap (λ ys. x ∷ ys) rest
     ]
 
-without_sum : (g : ℕ → ℤ) (i : ℕ) (s : List ℕ) → AllPairs (λ a b. a < b) s → is_in i s ≡ true → sum_over g (without i s) ≡ sum_over g s -ℤ g i
+pub without_sum : (g : ℕ → ℤ) (i : ℕ) (s : List ℕ) → AllPairs (λ a b. a < b) s → is_in i s ≡ true → sum_over g (without i s) ≡ sum_over g s -ℤ g i
 without_sum g i [] rising there = absurd (cc there)
 without_sum g i (x ∷ xs) rising there = elim (eqb_tells x i) as (λ _. sum_over g (without i (x ∷ xs)) ≡ sum_over g (x ∷ xs) -ℤ g i) [
   | inl same ↦

@@ -1,4 +1,4 @@
-ghost use Rattle.std.specs.Prelude.{◌≡◌, ◌↔◌, ℕ, ◌<◌, [], length, IsTrue, IsFalse};
+ghost use Rattle.std.specs.Prelude.{◌≡◌, ◌↔◌, ℕ, ◌<◌, [], length, List, IsTrue, IsFalse};
 ghost use Rattle.std.specs.List.{All, Contains};
 ghost use Rattle.dali_problem.specs.Feasible.{ArePlaces, IsFeasible};
 ghost use Rattle.dali_problem.specs.declared.mark.Mark.{Mark};
@@ -29,7 +29,7 @@ impl Room {
     }
 
     /// Finds the rest of the members outside of a feasible set: the greatest list of them that can be paid with its own
-    /// credits. `is_in_rest` then tells its places.
+    /// credits. There is only one. `is_in_rest` then tells its places.
     pub fn find_rest(&mut self, problem: &Problem, set: &Places, members: &Places)
         requires room { IsRoomOf problem.now self.old }
         requires places { ArePlaces problem.now set.now }
@@ -37,6 +37,7 @@ impl Room {
         ensures room { IsRoomOf problem.now self.new }
         ensures set { (j : ℕ) → (mark self.new.marks j ≡ Mark.Chosen) ↔ Contains set.now j }
         ensures rest { IsRest problem.now set.now (outside members.now set.now) (undecided_below self.new.marks (length problem.now.items)) }
+        ensures only { (r : List ℕ) → IsRest problem.now set.now (outside members.now set.now) r → r ≡ undecided_below self.new.marks (length problem.now.items) }
     {
         self.stand(problem, set.as_slice());
         self.open_members(problem, members.as_slice());

@@ -1,5 +1,6 @@
 use Rattle.std.specs.Prelude.{ℕ, Bool, nat_le, ◌&&◌, length}
 use Rattle.std.specs.List.{list_all}
+use Rattle.dali_base.specs.Limits.{most_fixes}
 use Rattle.dali_tree.specs.declared.tree.End.{End}
 use Rattle.dali_tree.specs.declared.tree.End.TheFolds.{fold-End}
 use Rattle.dali_tree.specs.Tree.{count_step, depth_step}
@@ -15,7 +16,7 @@ end_depth = fold-End ℕ ℕ depth_step (λ node. node.end)
 
 abbrev pub ends_fit : ℕ → ℕ → End → Bool
 ends_fit items lines = fold-End Bool Bool (end_fits items lines)
-    (λ node. nat_le (length node.fixes) 1024 && list_all (fix_fits items lines) node.fixes && node.end)
+    (λ node. nat_le (length node.fixes) most_fixes && list_all (fix_fits items lines) node.fixes && node.end)
 
 abbrev pub ends_in_range : ℕ → ℕ → End → Bool
 ends_in_range items lines = fold-End Bool Bool (end_in_range items lines)

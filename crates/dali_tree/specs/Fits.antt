@@ -1,5 +1,6 @@
-use Rattle.std.specs.Prelude.{ℕ, ◌<◌, ◌≤◌, ◌^◌, ◌*◌, Bool, true, IsTrue, ◌&&◌, nat_lt, nat_le, List, [], ◌∷◌, length, map, slice_index}
+use Rattle.std.specs.Prelude.{ℕ, ◌<◌, ◌≤◌, Bool, true, IsTrue, ◌&&◌, nat_lt, nat_le, List, [], ◌∷◌, length, map, slice_index}
 use Rattle.std.specs.List.{All, AllPairs, list_all}
+use Rattle.dali_base.specs.Limits.{most_bound, most_multiplier, most_depth, most_fixes}
 use Rattle.dali_tree.specs.declared.fix.Fix.{Fix}
 use Rattle.dali_tree.specs.declared.fix.Fix.TheVariants.{Barred, Needed, Safe}
 use Rattle.dali_tree.specs.declared.tree.Tree.{Tree}
@@ -20,9 +21,9 @@ abbrev pub is_rising : List ℕ → Bool
 is_rising [] = true
 is_rising (x ∷ xs) = list_all (nat_lt x) xs && is_rising xs
 
--- a multiplier is 1 to 2^44, on a line in range
+-- a multiplier is from 1 to the greatest, on a line in range
 abbrev pub multiplier_fits : ℕ → ℕ × ℕ → Bool
-multiplier_fits lines m = nat_lt m.0 lines && nat_le 1 m.1 && nat_le m.1 (2 ^ 44)
+multiplier_fits lines m = nat_lt m.0 lines && nat_le 1 m.1 && nat_le m.1 most_multiplier
 
 -- multipliers stand on rising lines
 abbrev pub lam_fits : ℕ → List (ℕ × ℕ) → Bool
@@ -35,11 +36,11 @@ end_fits items lines (End-F.Short line) = nat_lt line lines
 end_fits items lines (End-F.Branch place lam inside outside) =
     nat_lt place items && lam_fits lines lam && inside && outside
 
--- every node has at most 1,024 fixes, and all that a tree names is in range
+-- no node has too many fixes, and all that a tree names is in range
 abbrev pub tree_fits : ℕ → ℕ → Tree → Bool
 tree_fits items lines =
     fold-Tree Bool Bool (end_fits items lines)
-    (λ node. nat_le (length node.fixes) 1024 && list_all (fix_fits items lines) node.fixes && node.end)
+    (λ node. nat_le (length node.fixes) most_fixes && list_all (fix_fits items lines) node.fixes && node.end)
 
 -- a rising list of numbers below n
 pub record AreRising (n : ℕ) (xs : List ℕ) : Type 0 where
@@ -50,9 +51,9 @@ pub record AreRising (n : ℕ) (xs : List ℕ) : Type 0 where
 pub record PartFits (items lines : ℕ) (part : Part) : Type 0 where
   pub some : 0 < length part.members
   pub members : AreRising items part.members
-  pub bound : part.bound ≤ 16384 * 10 ^ 15
+  pub bound : part.bound ≤ most_bound
   pub tree : IsTrue (tree_fits items lines part.tree)
-  pub depth : branch_depth part.tree ≤ 1024
+  pub depth : branch_depth part.tree ≤ most_depth
 
 -- the first member of a part
 abbrev pub first_member : Part → ℕ

@@ -1,5 +1,6 @@
-use Rattle.std.specs.Prelude.{ℕ, ◌≤◌, ◌^◌, Bool, IsTrue, ◌&&◌, nat_lt, nat_le, List, map}
+use Rattle.std.specs.Prelude.{ℕ, ◌≤◌, Bool, IsTrue, ◌&&◌, nat_lt, nat_le, List, map}
 use Rattle.std.specs.List.{All, list_all}
+use Rattle.dali_base.specs.Limits.{most_multiplier, most_depth}
 use Rattle.dali_tree.specs.declared.tree.Tree.{Tree}
 use Rattle.dali_tree.specs.declared.tree.End.TheOpen.{End-F}
 use Rattle.dali_tree.specs.declared.tree.End.TheFolds.{fold-Tree}
@@ -8,9 +9,9 @@ use Rattle.dali_tree.specs.declared.choice.Choice.{Choice}
 use Rattle.dali_tree.specs.Tree.{branch_depth}
 use Rattle.dali_tree.specs.Fits.{AreRising, is_rising, fix_fits}
 
--- a multiplier is at most 2^44, on a line in range
+-- a multiplier is at most the greatest, on a line in range
 abbrev pub multiplier_in_range : ℕ → ℕ × ℕ → Bool
-multiplier_in_range lines m = nat_lt m.0 lines && nat_le m.1 (2 ^ 44)
+multiplier_in_range lines m = nat_lt m.0 lines && nat_le m.1 most_multiplier
 
 -- multipliers in range stand on rising lines
 abbrev pub lam_in_range : ℕ → List (ℕ × ℕ) → Bool
@@ -34,7 +35,7 @@ tree_in_range items lines =
 pub record IsPartInRange (items lines : ℕ) (part : Part) : Type 0 where
   pub members : AreRising items part.members
   pub tree : IsTrue (tree_in_range items lines part.tree)
-  pub depth : branch_depth part.tree ≤ 1024
+  pub depth : branch_depth part.tree ≤ most_depth
 
 -- a choice names only what a problem of so many items and lines has; every choice that fits is in range
 pub record IsInRange (items lines : ℕ) (choice : Choice) : Type 0 where

@@ -1,9 +1,9 @@
 ghost use Rattle.std.specs.Prelude.{◌≡◌, ℕ, ◌+◌, ◌<◌, ◌≤◌, ◌^◌, List, pos, ◌+ℤ◌, ◌≤ℤ◌, All, IsTrue, length, if◌then◌else◌};
 ghost use Rattle.std.specs.Int.{FitsUnsigned, w64};
+ghost use Rattle.dali_base.specs.Limits.{most_total};
 ghost use Rattle.dali_account.specs.Units.{units_of};
 ghost use Rattle.dali_account.specs.AssetList.{prices, total_at};
 ghost use Rattle.dali_account.specs.Book.{same_name, has_asset, knows_pair, held, total_of};
-ghost use Rattle.dali_account.specs.Refusals.{LIMIT};
 ghost use Rattle.dali_account.specs.Net.{pair_of, after_move, with_move, with_net, asset_delta};
 
 use crate::assets::Assets;
@@ -17,7 +17,7 @@ impl Book {
     pub fn post(&mut self, net: &Net)
         requires known { All (λ m. IsTrue (knows_pair self.old.book m.account m.asset)) net.now }
         requires covered { All (λ m. pos 0 ≤ℤ (pos (units_of self.old.book.balances (pair_of m)) +ℤ m.delta)) net.now }
-        requires limit { (asset : List ℕ) → held self.old.book.accounts (with_net self.old.book.balances net.now) self.old.book.earmarks asset ≤ LIMIT }
+        requires limit { (asset : List ℕ) → held self.old.book.accounts (with_net self.old.book.balances net.now) self.old.book.earmarks asset ≤ most_total }
         requires room { length net.now ≤ self.old.spare_lines }
         ensures book { self.new.book ≡ record self.old.book { balances = with_net self.old.book.balances net.now } }
         ensures totals { (asset : List ℕ) → pos (total_of self.new.book asset) ≡ (pos (total_of self.old.book asset) +ℤ asset_delta net.now asset) }

@@ -1,10 +1,12 @@
 ghost use Rattle.std.specs.Prelude.{◌≡◌, ◌≢◌, ℕ, ◌+◌, ◌<◌, ◌≤◌, List, ◌&&◌, is_ok, if◌then◌else◌, Err, IsTrue, IsOk, IsOkUnless, OnOk, OnErr};
+ghost use Rattle.dali_base.specs.Limits.{most_total};
 ghost use Rattle.dali_account.specs.Book.{same_name, knows_pair, balance_of, earmark_of, total_of, with_pair, issued, drawn, after_earmark, after_release};
-ghost use Rattle.dali_account.specs.Refusals.{LIMIT, Answers, issue_refusal, draw_refusal, release_refusal};
+ghost use Rattle.dali_account.specs.Refusals.{Answers, issue_refusal, draw_refusal, release_refusal};
 
-use crate::book::{Book, MOST_UNITS};
+use crate::book::Book;
 use crate::refusal::BookNo;
 use dali_base::Name;
+use dali_base::limits::MOST_TOTAL;
 
 /// The numbers of a pair, and the total of its asset.
 #[derive(Clone, Copy)]
@@ -33,7 +35,7 @@ impl Book {
             return Err(BookNo::Name);
         }
         let standing = self.standing(account, asset);
-        if quantity > MOST_UNITS - standing.total {
+        if quantity > MOST_TOTAL - standing.total {
             return Err(BookNo::Total);
         }
         let raised = Standing {
@@ -139,7 +141,7 @@ impl Book {
         ensures balance { result.balance ≡ balance_of self.now.book account asset }
         ensures earmark { result.earmark ≡ earmark_of self.now.book account asset }
         ensures total { result.total ≡ total_of self.now.book asset }
-        ensures limit { result.total ≤ LIMIT }
+        ensures limit { result.total ≤ most_total }
         ensures within { result.balance + result.earmark ≤ result.total }
     {
         Standing {
@@ -154,7 +156,7 @@ impl Book {
         requires pair { IsTrue (knows_pair self.old.book account asset) }
         requires earmark { next.earmark ≤ earmark_of self.old.book account asset }
         requires moved { next.balance + next.earmark + total_of self.old.book asset ≡ balance_of self.old.book account asset + earmark_of self.old.book account asset + next.total }
-        requires limit { next.total ≤ LIMIT }
+        requires limit { next.total ≤ most_total }
         ensures memory { IsOkUnless result BookNo.OutOfMemory }
         ensures ok { OnOk result (self.new.book ≡ with_pair self.old.book account asset next.balance next.earmark) }
         ensures totals { (other : List ℕ) → total_of self.new.book other ≡ (if is_ok result && same_name other asset then next.total else total_of self.old.book other) }
@@ -179,7 +181,7 @@ impl Book {
         requires pair { IsTrue (knows_pair self.old.book account asset) }
         requires balance { next.balance ≤ balance_of self.old.book account asset }
         requires moved { next.balance + next.earmark + total_of self.old.book asset ≡ balance_of self.old.book account asset + earmark_of self.old.book account asset + next.total }
-        requires limit { next.total ≤ LIMIT }
+        requires limit { next.total ≤ most_total }
         ensures memory { IsOkUnless result BookNo.OutOfMemory }
         ensures ok { OnOk result (self.new.book ≡ with_pair self.old.book account asset next.balance next.earmark) }
         ensures totals { (other : List ℕ) → total_of self.new.book other ≡ (if is_ok result && same_name other asset then next.total else total_of self.old.book other) }
@@ -205,7 +207,7 @@ impl Book {
         requires balance { next.balance ≤ balance_of self.old.book account asset }
         requires earmark { next.earmark ≤ earmark_of self.old.book account asset }
         requires moved { next.balance + next.earmark + total_of self.old.book asset ≡ balance_of self.old.book account asset + earmark_of self.old.book account asset + next.total }
-        requires limit { next.total ≤ LIMIT }
+        requires limit { next.total ≤ most_total }
         ensures book { self.new.book ≡ with_pair self.old.book account asset next.balance next.earmark }
         ensures totals { (other : List ℕ) → total_of self.new.book other ≡ (if same_name other asset then next.total else total_of self.old.book other) }
         ensures room { self.new.spare_lines ≡ self.old.spare_lines }

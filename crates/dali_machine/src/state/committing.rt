@@ -1,9 +1,11 @@
-ghost use Rattle.std.specs.Prelude.{◌≡◌, ℕ, ◌+◌, ◌≤◌, List};
+ghost use Rattle.std.specs.Prelude.{◌≡◌, ℕ, ◌+◌, ◌≤◌, List, Option, Some};
+ghost use Rattle.dali_tree.specs.declared.choice.Choice.{Choice};
 ghost use Rattle.dali_machine.specs.Kept.{IsMachine};
 ghost use Rattle.dali_machine.specs.Step.{counted, turn, step};
+ghost use Rattle.dali_machine.specs.Outcomes.{IsReported};
 ghost use Rattle.dali_machine.specs.Refused.{LeavesAll, IsAnswered};
 ghost use Rattle.dali_machine.specs.Totals.{KeepsTotals};
-ghost use Rattle.dali_machine.specs.Ready.{CanCommit, IsReady};
+ghost use Rattle.dali_machine.specs.Ready.{CanCommit, IsReady, cycle_in};
 ghost use Rattle.dali_machine.specs.declared.outcome.Code.{Code};
 
 use super::State;
@@ -21,12 +23,13 @@ impl State {
     pub fn commit(&mut self, ready: Ready) -> Outcome
         requires { CanCommit self.old ready }
         ensures outcome { result ≡ ready.outcome }
-        ensures next { self.new.machine ≡ (turn (counted self.old.machine) ready.judged).next }
+        ensures next { self.new.machine ≡ (turn (counted self.old.machine) ready.judged (cycle_in ready.outcome)).next }
+        ensures reported { IsReported result }
         ensures counted { self.new.machine.commands ≡ self.old.machine.commands + 1 }
         ensures refused { (code : Code) → result ≡ Outcome.No code → LeavesAll code self.old.machine self.new.machine }
         ensures totals { KeepsTotals ready.judged self.old.machine.book self.new.machine.book }
-        ensures step { (edition : ℕ) (line : List ℕ) → IsReady edition self.old.machine line ready → self.new.machine ≡ (step edition self.old.machine line).next }
-        ensures rises { (edition : ℕ) (line : List ℕ) → IsReady edition self.old.machine line ready → self.old.machine.greatest ≤ self.new.machine.greatest }
+        ensures step { (edition : ℕ) (line : List ℕ) (choice : Option Choice) → IsReady edition self.old.machine line choice ready → self.new.machine ≡ (step edition self.old.machine line choice).next }
+        ensures rises { (edition : ℕ) (line : List ℕ) (choice : Option Choice) → IsReady edition self.old.machine line choice ready → self.old.machine.greatest ≤ self.new.machine.greatest }
     {
         self.take_turn(ready)
     }
@@ -35,18 +38,22 @@ impl State {
     fn take_turn(&mut self, ready: Ready) -> Outcome
         requires { CanCommit self.old ready }
         ensures outcome { result ≡ ready.outcome }
-        ensures next { self.new.machine ≡ (turn (counted self.old.machine) ready.judged).next }
+        ensures next { self.new.machine ≡ (turn (counted self.old.machine) ready.judged (cycle_in ready.outcome)).next }
         ensures kept { IsMachine self.old.machine }
         ensures answered { IsAnswered ready.judged ready.outcome }
+        ensures reported { IsReported ready.outcome }
     {
-        let (judged, outcome, number, net) = ready.into_parts();
+        let (judged, outcome, number, net, places) = ready.into_parts();
         self.commands = number;
         match judged {
             Judged::Form | Judged::Back => {}
             Judged::No { moment, .. } => self.greatest = moment,
             Judged::Yes { moment, verb } => {
                 self.greatest = moment;
-                self.accept(&verb, &net);
+                match &outcome {
+                    Outcome::Cycle { .. } => self.book_set(&places, &net),
+                    _ => self.accept(&verb, &net),
+                }
             }
         }
         outcome

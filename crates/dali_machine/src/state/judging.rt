@@ -1,7 +1,7 @@
 ghost use Rattle.std.specs.Prelude.{◌≡◌, Some};
 ghost use Rattle.dali_line.specs.Grammar.{HasFields};
 ghost use Rattle.dali_machine.specs.Refusals.{refusal};
-ghost use Rattle.dali_machine.specs.Step.{is_report, is_built, built_of, verdict, judged_command, judged};
+ghost use Rattle.dali_machine.specs.Step.{is_report, verdict, judged_command, judged};
 ghost use Rattle.dali_machine.specs.Ready.{HasGoodFields};
 
 use super::State;
@@ -24,12 +24,9 @@ impl State {
 
     fn judge_command(&self, command: &Command) -> Judged
         requires { HasFields command.now.verb }
-        ensures exact { result ≡ judged_command self.now.machine (built_of (Some command.now)) }
+        ensures exact { result ≡ judged_command self.now.machine (Some command.now) }
         ensures fields { HasGoodFields result }
     {
-        if !is_built(&command.verb) {
-            return Judged::Form;
-        }
         if command.moment < self.greatest {
             return Judged::Back;
         }
@@ -62,11 +59,4 @@ fn is_report(verb: &Verb) -> bool
     ensures { result ≡ is_report verb.now }
 {
     matches!(verb, Verb::Queue | Verb::Stat { .. } | Verb::Ledger { .. })
-}
-
-/// Whether the verb is built. The others are no commands yet.
-fn is_built(verb: &Verb) -> bool
-    ensures { result ≡ is_built verb.now }
-{
-    !matches!(verb, Verb::Cycle { .. })
 }

@@ -1,13 +1,15 @@
-ghost use Rattle.std.specs.Prelude.{◌≡◌, ◌≢◌, ℕ, ◌<◌, ◌≤◌, ◌^◌, pos, IfOk, OnOk, IsTrue};
+ghost use Rattle.std.specs.Prelude.{◌≡◌, ◌≢◌, ℕ, ◌<◌, ◌≤◌, ◌^◌, pos, None, IfOk, OnOk, IsTrue};
 ghost use Rattle.dali_line.specs.Grammar.{HasFields};
 ghost use Rattle.dali_line.specs.declared.command.Verb.{Verb as Wish};
 ghost use Rattle.dali_machine.specs.Effects.{net_for, one_move};
-ghost use Rattle.dali_machine.specs.Step.{turn};
+ghost use Rattle.dali_machine.specs.Step.{judged, turn};
+ghost use Rattle.dali_machine.specs.History.{HasItsChoice};
 ghost use Rattle.dali_machine.specs.Outcomes.{answered};
 ghost use Rattle.dali_machine.specs.Refused.{is_told_apart};
 ghost use Rattle.dali_machine.specs.Ready.{HasGoodFields, HasRoomFor, HasPlaceFor, IsAllowed, IsMadeReady, IsReady, CanCommit, net_of_judged};
 
 use super::State;
+use super::cycling::accepted_cycle;
 use crate::judged::Judged;
 use crate::outcome::{Code, Outcome};
 use crate::ready::Ready;
@@ -15,6 +17,7 @@ use dali_account::{Move, Net};
 use dali_base::{Name, OutOfMemory, Seq};
 use dali_line::{Line, Verb};
 use dali_statement::{held, waiting};
+use dali_tree::Choice;
 use std::alloc::Global;
 
 impl State {
@@ -22,35 +25,53 @@ impl State {
     /// returned has the judgement, the answer and the command's number, and `commit` may take it. A line is no command
     /// in edition 0 and in those above 4, and so refused with FORM. The state stays as it was but for spare room, at want
     /// of memory too, which is the only error. Fewer than 2^63 commands were taken before.
-    pub fn prepare(&mut self, edition: u8, line: &Line) -> Result<Ready, OutOfMemory>
+    ///
+    /// A choice is there exactly where the line is an accepted CYCLE, and then it fits and is allowed for the problem of
+    /// its moment and its budget.
+    pub fn prepare(
+        &mut self,
+        edition: u8,
+        line: &Line,
+        choice: Option<Choice>,
+    ) -> Result<Ready, OutOfMemory>
         requires few { self.old.machine.commands < 2 ^ 63 }
+        requires choice { HasItsChoice self.old.machine (judged edition self.old.machine line.now) choice }
         ensures machine { self.new.machine ≡ self.old.machine }
-        ensures ready { IfOk result (IsReady edition self.old.machine line.now) }
+        ensures ready { IfOk result (IsReady edition self.old.machine line.now choice) }
         ensures room { IfOk result (CanCommit self.new) }
     {
         let judged = self.judge(edition, line.bytes());
-        self.make_ready(judged)
+        match (accepted_cycle(&judged), choice) {
+            (Some(cycle), Some(choice)) => self.make_cycle_ready(cycle.0, cycle.1, choice),
+            _ => self.make_ready(judged),
+        }
     }
 
-    /// Takes all memory that a judged line needs.
+    /// Takes all memory that a judged line needs which is no cycle.
     fn make_ready(&mut self, judged: Judged) -> Result<Ready, OutOfMemory>
         requires few { self.old.machine.commands < 2 ^ 63 }
         requires fields { HasGoodFields judged }
         requires allowed { IsAllowed self.old.machine judged }
         requires apart { IsTrue (is_told_apart judged) }
         ensures machine { self.new.machine ≡ self.old.machine }
-        ensures made { IfOk result (IsMadeReady self.old.machine judged) }
+        ensures made { IfOk result (IsMadeReady self.old.machine judged None) }
         ensures room { IfOk result (CanCommit self.new) }
     {
         let net = self.net_of_judged(&judged)?;
         self.make_room(&judged, &net)?;
         let outcome = self.outcome_of(&judged)?;
-        Ok(Ready::new(judged, outcome, self.commands + 1, net))
+        Ok(Ready::new(
+            judged,
+            outcome,
+            self.commands + 1,
+            net,
+            Seq::new(self.alloc),
+        ))
     }
 
     /// What is answered to a judged line.
     fn outcome_of(&self, judged: &Judged) -> Result<Outcome, OutOfMemory>
-        ensures { IfOk result (λ outcome. outcome ≡ (turn self.now.machine judged.now).outcome) }
+        ensures { IfOk result (λ outcome. outcome ≡ (turn self.now.machine judged.now None).outcome) }
     {
         match judged {
             Judged::Form => Ok(Outcome::No { code: Code::Form }),
@@ -83,7 +104,7 @@ impl State {
     }
 
     /// Makes room for what the command changes.
-    fn make_room(&mut self, judged: &Judged, net: &Net) -> Result<(), OutOfMemory>
+    pub(super) fn make_room(&mut self, judged: &Judged, net: &Net) -> Result<(), OutOfMemory>
         ensures machine { self.new.machine ≡ self.old.machine }
         ensures room { OnOk result (HasRoomFor self.new judged.now net.now) }
     {
@@ -116,7 +137,7 @@ impl State {
     /// The net that a judged line books.
     fn net_of_judged(&self, judged: &Judged) -> Result<Net, OutOfMemory>
         requires { HasGoodFields judged.now }
-        ensures { IfOk result (λ net. net ≡ net_of_judged self.now.machine judged.now) }
+        ensures { IfOk result (λ net. net ≡ net_of_judged self.now.machine judged.now None) }
     {
         match judged {
             Judged::Yes { verb, .. } => self.net_for(verb),

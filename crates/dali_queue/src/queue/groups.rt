@@ -1,6 +1,7 @@
 ghost use Rattle.std.specs.Prelude.{◌≡◌, ◌≤◌, ◌+◌, false, IsTrue};
+ghost use Rattle.dali_base.specs.Limits.{most_rank};
 ghost use Rattle.dali_queue.specs.Queue.{is_queued, ranked};
-ghost use Rattle.dali_queue.specs.Groups.{same_group, group_size, linked};
+ghost use Rattle.dali_queue.specs.Groups.{same_group, group_size, linked, MakesOne};
 ghost use Rattle.dali_queue.specs.Limits.{MOST_LINKED};
 
 use super::Queue;
@@ -15,11 +16,16 @@ impl Queue {
         requires apart { same_group self.old.queue.waiting first second ≡ false }
         requires fits { group_size self.old.queue.waiting first + group_size self.old.queue.waiting second ≤ MOST_LINKED }
         ensures queue { self.new.queue ≡ record self.old.queue { waiting = linked self.old.queue.waiting first second } }
+        ensures one { MakesOne self.old.queue.waiting self.new.queue.waiting first second }
         ensures room { self.new.spare ≡ self.old.spare }
     {
-        if let (Some(to), Some(from)) = (self.entries.group(first), self.entries.group(second)) {
-            self.entries.regroup(from, to);
-        }
+        let Some(to) = self.entries.group(first) else {
+            return;
+        };
+        let Some(from) = self.entries.group(second) else {
+            return;
+        };
+        self.entries.regroup(from, to);
     }
 
     /// Whether both are queued and in one group.
@@ -47,7 +53,7 @@ impl Queue {
     pub fn set_rank(&mut self, id: Name, rank: u8)
         requires queued { IsTrue (is_queued self.old.queue.waiting id) }
         requires from_one { 1 ≤ rank }
-        requires to_limit { rank ≤ 16 }
+        requires to_limit { rank ≤ most_rank }
         ensures queue { self.new.queue ≡ record self.old.queue { waiting = ranked self.old.queue.waiting id rank } }
         ensures room { self.new.spare ≡ self.old.spare }
     {

@@ -3,7 +3,7 @@ ghost use Rattle.std.specs.List.{All, AllPairs};
 ghost use Rattle.dali_account.specs.declared.net.Move.{Move};
 ghost use Rattle.dali_account.specs.Units.{PairKey};
 ghost use Rattle.dali_queue.specs.Changed.{ROOM, change_of, AreWithin};
-ghost use Rattle.dali_queue.specs.NetOf.{effect_at, effects_of, IsNetOf};
+ghost use Rattle.dali_queue.specs.NetOf.{effect_at, effects_of, IsNetOf, items_at, net_of};
 
 use super::Queue;
 use crate::changes::Changes;
@@ -19,6 +19,7 @@ impl Queue {
         requires rising { AllPairs (λ i j. i < j) places.now }
         requires in_range { All (λ p. p < length self.now.queue.waiting) places.now }
         ensures net { IfOk result (IsNetOf (effects_of self.now.queue.waiting places.now)) }
+        ensures items { IfOk result (λ net. net ≡ net_of (items_at self.now.queue.waiting places.now)) }
         ensures only { IfOk result (λ net. (other : List Move) → IsNetOf (effects_of self.now.queue.waiting places.now) other → other ≡ net) }
     {
         // The limits of the queue bound the sums.

@@ -1,6 +1,7 @@
 use Rattle.std.proofs.Common.{◌≤◌, ℕ, sym, subst}
 use Rattle.dali_problem.specs.Feasible.{value_of}
 use Rattle.dali_check.proofs.Ceiling.{whole_most}
+use Rattle.dali_check.proofs.Certified.{certified}
 use Rattle.dali_check.proofs.Summing.{whole_bounds}
 use Rattle.dali_check.proofs.allowing.allowed.Goals as goal
 
@@ -27,3 +28,6 @@ returns-in-Ok-check_budget-clause-best c same = record {
       (whole_bounds c.args.problem.now c.args.choice.now t c.items-items.ensures.bounds c.requires.in_range c.in-Ok.ensures.whole
       c.in-Ok-check_parts.ensures.proved places feasible));
 }
+
+pub returns-in-Ok-check_budget-clause-certified : goal.returns-in-Ok-check_budget-clause-certified
+returns-in-Ok-check_budget-clause-certified c = certified c.args.problem.now c.args.budget c.args.choice.now c.in-Ok-check_budget.ensures.ok

@@ -1,4 +1,4 @@
-use Rattle.std.proofs.Common.{◌∙◌, ◌<◌, ℕ, List, [], ◌∷◌, refl, sym, ap, subst}
+use Rattle.std.proofs.Common.{◌∙◌, ◌<◌, ℕ, List, [], ◌∷◌, refl, sym, ap, subst, arith}
 use Rattle.std.specs.Prelude.{length}
 use Rattle.dali_line.specs.Commands.{is_command}
 use Rattle.dali_line.proofs.Ends.{commands_last, commands_none, first_long}
@@ -19,3 +19,11 @@ pub returns-in-Ok-clause-ok : goal.returns-in-Ok-clause-ok
 returns-in-Ok-clause-ok c raw stands =
     let is = c.in-Some.ensures.some raw stands in
     commands_last raw stands.one (ap is_command (sym is) ∙ c.in-Some.ensures.begins) ∙ ap (λ line. line ∷ []) (sym is ∙ sym c.in-Ok.ensures)
+
+pub returns-in-Err-clause-err : goal.returns-in-Err-clause-err
+returns-in-Err-clause-err c raw stands =
+    let is = c.in-Some.ensures.some raw stands in (
+      c.in-Some.bytes.now,
+      omega (arith, c.if-bytes-gt-MOST.false),
+      commands_last raw stands.one (ap is_command (sym is) ∙ c.in-Some.ensures.begins) ∙ ap (λ line. line ∷ []) (sym is),
+    )

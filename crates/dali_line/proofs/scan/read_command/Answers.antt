@@ -1,13 +1,13 @@
-use Rattle.std.proofs.Common.{◌≡◌, ◌∙◌, sym, ap, subst, arith}
+use Rattle.std.proofs.Common.{◌≡◌, ◌∙◌, refl, sym, ap, subst, arith}
 use Rattle.std.specs.Prelude.{IfErr}
 use Rattle.std.proofs.lemmas.Result.{IfOk-weaker}
 use Rattle.dali_line.specs.Commands.{is_command}
 use Rattle.dali_line.specs.declared.line_end.LineEnd.TheVariants.{OutOfMemory}
 use Rattle.dali_line.specs.Lines.{reach, Stops, MeetsLine}
 use Rattle.dali_line.specs.Scan.{Finds, Steps, AtNewline, AtEnd, IsEnded, EndsWith, CutsOff}
-use Rattle.dali_line.proofs.Founds.{if_err, line_begins, ended_found, last_found, last_stops}
+use Rattle.dali_line.proofs.Founds.{if_err, line_begins, line_short, ended_found, last_found, last_stops}
 use Rattle.dali_line.specs.Open.{Midway}
-use Rattle.dali_line.proofs.Scanning.{midway_starts}
+use Rattle.dali_line.proofs.Scanning.{midway_starts, wanted_line}
 use Rattle.dali_line.proofs.scan.read_command.Goals as goal
 
 pub turns-init : goal.turns-init
@@ -17,6 +17,7 @@ turns-init g c =
     record {
       midway = subst (λ line. Midway told start line start) (sym c.requires.line) (midway_starts told start c.requires.taken);
       faults = omega arith;
+      quiet = refl;
       counted = omega arith;
     }
 
@@ -73,5 +74,9 @@ returns-in-Some-clause-stops g c =
     let now = reach c.step.new.block c.step.new.taken (g.S.Source.feed c.step.new.source) in
     let at : AtNewline told start c.step.new.line now =
     subst (Steps told start c.step.new.line now) c.in-Ok-Newline.field-0-is (c.in-Ok-Newline.ensures.steps start c.turns.invariant.midway) in
+    let is = c.in-Some.ensures.some at.raw at.stands in
+    let begins = ap is_command (sym is) ∙ line_begins c.in-Some.bytes.now c.in-Some.ensures.command in
+    let wants = wanted_line told c.in-Some.bytes.now start now (line_short c.in-Some.bytes.now c.in-Some.ensures.command)
+    (subst (λ line. MeetsLine told line start now) (sym is) (at.gives begins)) in
     if_err c.ended-in-Some.result (λ end. end ≡ OutOfMemory) (Stops told c.args.number start now) c.ended-in-Some.ensures.err
-    (λ end is. subst (Stops told c.args.number start now) (sym is) at.wants)
+    (λ end is. subst (Stops told c.args.number start now) (sym is) wants)

@@ -1,4 +1,4 @@
-use Rattle.std.proofs.Common.{◌≤◌, ◌+◌, ◌*◌, ◌-◌, length}
+use Rattle.std.proofs.Common.{◌≡◌, ◌≤◌, ◌+◌, ◌*◌, ◌-◌, length}
 use Rattle.dali_line.specs.Lines.{reach, MOST_OF_FILE}
 use Rattle.dali_line.specs.Open.{Midway}
 use Rattle.dali_line.proofs.scan.read_command.Given as goal
@@ -7,6 +7,7 @@ abbrev pub invariant-turns : goal.invariant-turns
 invariant-turns g l = record {
   midway : Midway g.S.Source.tells (reach l.fn.block l.fn.taken (g.S.Source.feed l.fn.source)) l.line (reach l.block l.taken (g.S.Source.feed l.source));
   faults : (g.S.Source.feed l.fn.source).faults ≤ (g.S.Source.feed l.source).faults;
+  quiet : (g.S.Source.feed l.source).faults ≡ (g.S.Source.feed l.fn.source).faults;
   counted : l.fn.taken + length l.block ≤ l.taken + length l.fn.block;
 }
 

@@ -1,7 +1,7 @@
 use Rattle.std.proofs.Common.{◌++◌, inl, refl, sym, subst, arith}
 use Rattle.dali_line.specs.Lines.{reach}
 use Rattle.dali_line.specs.Open.{Midway}
-use Rattle.dali_line.proofs.Scanning.{goes_on, skips_line, meets_line, long_within, wants_memory}
+use Rattle.dali_line.proofs.Scanning.{goes_on, skips_line, meets_line, long_within}
 use Rattle.dali_line.proofs.scan.step.Goals as goal
 
 pub returns-in-Ok-true-move_line-clause-steps : goal.returns-in-Ok-true-move_line-clause-steps
@@ -15,7 +15,6 @@ returns-in-Ok-true-move_line-clause-steps g c old midway =
       stands = stands;
       gives = λ begins. meets_line told old now c.args.line.now midway met.0 c.move_line.new.block met.1 stands.one begins;
       skips = λ skipped. skips_line told old now c.args.line.now midway met.0 c.move_line.new.block met.1 stands.one skipped;
-      wants = wants_memory told old now c.args.line.now midway c.move_line.new.block;
     }
 
 pub returns-in-Ok-false-move_line-clause-steps : goal.returns-in-Ok-false-move_line-clause-steps

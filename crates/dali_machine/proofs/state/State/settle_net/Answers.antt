@@ -12,4 +12,4 @@ pub returns : goal.returns
 returns c = subst (λ (s : StateRecord). IfOk c.net.result (λ (net : List Move). net ≡ net_for s.machine (verbs.Settle c.args.id))) c.self.view_is
     (net_made c.net.result (machine_of c.self.inside) c.args.id c.in-Some.place c.push.new.self
     (c.in_ok-push.ensures.ok ∙ ap (λ ps. ps ++ c.in-Some.place ∷ []) c.new-places.ensures)
-    (sym c.place.ensures.place ∙ c.in-Some.is) c.net.ensures.only)
+    (sym c.place.ensures.place ∙ c.in-Some.is) c.net.ensures.items)

@@ -6,8 +6,9 @@ use Rattle.dali_problem.proofs.SumLaws.{sum_over_more}
 use Rattle.dali_queue.specs.Queue.{QueueState}
 use Rattle.dali_queue.specs.Limits.{IsQueue}
 use Rattle.dali_queue.specs.Changed.{change_of}
-use Rattle.dali_queue.specs.NetOf.{effect_at, effects_of}
+use Rattle.dali_queue.specs.NetOf.{effect_at, effects_of, items_at}
 use Rattle.dali_queue.proofs.NetLemmas.{effects_within, only_net}
+use Rattle.dali_queue.proofs.NetItems.{effects_are, is_net_of}
 use Rattle.dali_queue.proofs.queue.Queue.net.Goals as goal
 
 pub add_effects-requires : goal.add_effects-requires
@@ -34,3 +35,11 @@ returns-clause-only c =
     take_all c.loop-place.place-index c.as_slice-place-items.result.now c.loop-place-test.false ∙ c.as_slice-place-items.ensures in
     only_net c.net.result (change_of c.loop-place.changes.deltas) (effects_of ws c.args.places.now) c.net.ensures
     (λ pair. c.loop-place.invariant.so_far pair ∙ ap (λ ps. effects_of ws ps pair) all)
+
+pub returns-clause-items : goal.returns-clause-items
+returns-clause-items c =
+    let ws = c.args.self.now.queue.waiting in
+    let all : take c.loop-place.place-index c.as_slice-place-items.result.now ≡ c.args.places.now =
+    take_all c.loop-place.place-index c.as_slice-place-items.result.now c.loop-place-test.false ∙ c.as_slice-place-items.ensures in
+    is_net_of c.net.result (change_of c.loop-place.changes.deltas) (items_at ws c.args.places.now) c.net.ensures
+    (λ pair. c.loop-place.invariant.so_far pair ∙ ap (λ ps. effects_of ws ps pair) all ∙ effects_are ws c.args.places.now pair)

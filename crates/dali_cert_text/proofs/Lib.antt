@@ -1,0 +1,17 @@
+pub mod Printed
+pub mod Pieces
+pub mod RisingRead
+pub mod Binds
+pub mod FieldLaws
+pub mod RisingLaws
+pub mod RowLaws
+pub mod TextLaws
+pub mod MayLaws
+pub mod Going
+pub mod Rowing
+pub mod Fitting
+pub mod Keeping
+pub mod Steps
+pub mod Following
+pub mod Leading
+pub mod Forming

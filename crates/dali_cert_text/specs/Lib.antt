@@ -1,0 +1,14 @@
+pub mod Rows
+pub mod Block
+pub mod Fields
+pub mod Reading
+pub mod Rowed
+pub mod Refusal
+pub mod Growth
+pub mod Stating
+pub mod StatementLayout
+pub mod Form
+pub mod Stages
+pub mod UnreadLayout
+pub use Rattle.dali_tree.specs.Fits
+pub use Rattle.dali_problem.specs.Clearing

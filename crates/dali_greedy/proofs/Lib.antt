@@ -1,0 +1,9 @@
+pub mod Taken
+pub mod Standings
+pub mod Sets
+pub mod Fits
+pub mod Worths
+pub mod Columned
+pub mod Goes
+pub mod Begun
+pub mod Goods

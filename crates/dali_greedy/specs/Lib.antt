@@ -1,0 +1,4 @@
+pub mod Grown
+pub mod Standing
+pub mod Order
+pub mod Ground

@@ -1,0 +1,14 @@
+pub mod ChangeLemmas
+pub mod Fields
+pub mod LamLemmas
+pub mod TreeEquations
+pub mod TreeTakes
+pub mod TreeAgain
+pub mod EntryTakes
+pub mod EntryAgain
+pub mod MergeLemmas
+pub mod ReadLoop
+pub mod PutLemmas
+pub mod DecodeLemmas
+pub mod TreeSteps
+pub mod LengthLemmas

@@ -1,0 +1,10 @@
+pub mod Multipliers
+pub mod TreeText
+pub mod RecordText
+pub mod IsRecord
+pub mod Merging
+pub mod Reading
+pub mod EntryReading
+pub mod Decodes
+pub mod Longest
+pub use Rattle.dali_entry.specs.EntryRecord

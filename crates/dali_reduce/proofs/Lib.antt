@@ -1,0 +1,4 @@
+pub mod Taken
+pub mod Turning
+pub mod Settling
+pub mod Starting

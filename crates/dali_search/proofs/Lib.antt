@@ -1,0 +1,15 @@
+pub mod Climbing
+pub mod Adding
+pub mod Falling
+pub mod Members
+pub mod Starting
+pub mod Offers
+pub mod Easing
+pub mod Bounding
+pub mod Growing
+pub mod Folding
+pub mod Standing
+pub mod Concluding
+pub mod Nearing
+pub mod Descending
+pub mod Finishing

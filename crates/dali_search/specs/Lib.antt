@@ -1,0 +1,11 @@
+pub mod Start
+pub mod Nodes
+pub mod Best
+pub mod Arena
+pub mod Sides
+pub mod Stands
+pub mod Whole
+pub mod Nearest
+pub mod Adding
+pub mod Searched
+pub mod Descent

@@ -1,0 +1,55 @@
+ghost use Rattle.std.specs.Prelude.{◌≡◌, ℕ, ◌*◌, ◌+◌, ◌^◌, ◌<◌, ◌≤◌, ℤ, pos, ◌≤ℤ◌, ◌<ℤ◌, true, length, IfSome, IfNone, false};
+ghost use Rattle.dali_problem.specs.Kept.{IsOf};
+ghost use Rattle.dali_problem.specs.Rules.{is_short};
+ghost use Rattle.dali_lagrange.specs.Bound.{sum_of};
+ghost use Rattle.dali_lagrange.specs.Multipliers.{AreMultipliers, multiplier};
+ghost use Rattle.dali_check.specs.Proves.{closes};
+ghost use Rattle.dali_check.specs.Lean.{reaches};
+
+use dali_lagrange::{Point, sum};
+use dali_problem::{Partial, Problem};
+use dali_tree::Lam;
+
+/// The bound of multipliers whose Sum is at most that of all multipliers 0, in centavos, and 0 where the Sum is below 0.
+pub(crate) fn bound(problem: &Problem, partial: &Partial, lam: &Lam, point: &mut Point) -> u64
+    requires of { IsOf problem.now partial.now }
+    requires point { length point.old ≡ length problem.now.lines }
+    requires lam { AreMultipliers (length problem.now.lines) lam.now }
+    requires under { sum_of problem.now partial.now.marks (multiplier lam.now) ≤ℤ sum_of problem.now partial.now.marks (λ _. 0) }
+    ensures point { length point.new ≡ length point.old }
+    ensures small { result ≤ 16384 * 10 ^ 15 }
+    ensures above { closes problem.now result lam.now partial.now.marks ≡ true }
+    ensures least { 0 < result → reaches problem.now result lam.now partial.now.marks ≡ true }
+{
+    let _items = problem.items();
+    point.load(lam);
+    floor(&sum(problem, partial, point))
+}
+
+/// How many whole centavos a Sum has.
+fn floor(sum: &i128) -> u64
+    requires { sum.now ≤ℤ pos (4096 * (16384 * 10 ^ 15)) }
+    ensures small { result ≤ 16384 * 10 ^ 15 }
+    ensures above { sum.now <ℤ pos (4096 * (result + 1)) }
+    ensures least { 0 < result → pos (4096 * result) ≤ℤ sum.now }
+{
+    if *sum < 0 {
+        return 0;
+    }
+    (*sum as u128 / 4096) as u64
+}
+
+/// The first line that is short.
+pub(crate) fn first_short(problem: &Problem, partial: &Partial) -> Option<u32>
+    requires { IsOf problem.now partial.now }
+    ensures within { IfSome result (λ line. line < length problem.now.lines) }
+    ensures short { IfSome result (λ line. is_short problem.now partial.now.marks line ≡ true) }
+    ensures none { IfNone result ((l : ℕ) → l < length problem.now.lines → is_short problem.now partial.now.marks l ≡ false) }
+{
+    for line in 0..problem.lines() {
+        if partial.is_short(line) {
+            return Some(line);
+        }
+    }
+    None
+}
