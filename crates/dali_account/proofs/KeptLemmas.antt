@@ -11,7 +11,8 @@ use Rattle.dali_base.specs.NameList.{NameList, with_name}
 use Rattle.dali_account.proofs.AssetLemmas.{length-prices, price_after}
 use Rattle.dali_account.specs.Units.{PairKey, Units, pair_cmp, units_of, with_units}
 use Rattle.dali_account.specs.Book.{same_name, cash, has_account, has_asset, price_of, held}
-use Rattle.dali_account.specs.Refusals.{MOST, LIMIT}
+use Rattle.dali_base.specs.Limits.{most_total}
+use Rattle.dali_account.specs.Limits.{most_codes}
 use Rattle.dali_account.specs.AssetList.{AssetList, prices, total_at}
 use Rattle.dali_account.specs.BookKept.{IsBalanced}
 use Rattle.dali_account.proofs.UnitsLemmas.{same_pair}
@@ -31,7 +32,7 @@ module _ (accounts : List (List ℕ)) (old new : AssetList) (balances earmarks :
     (priced : prices new.listings ≡ prices old.listings)
     (set : (q : List ℕ) → total_at new q ≡ cond (same_name q asset) total (total_at old q))
     (moved : balance + earmark + held accounts balances earmarks asset ≡ units_of balances (account, asset) + units_of earmarks (account, asset) + total)
-    (limited : total ≤ LIMIT) where
+    (limited : total ≤ most_total) where
   sum_is : held accounts (with_units balances (account, asset) balance) (with_units earmarks (account, asset) earmark) asset ≡ total
   sum_is =
       let sums = held_moved accounts balances earmarks account asset balance earmark total (held accounts balances earmarks asset) moved kept.distinct there in
@@ -45,10 +46,10 @@ module _ (accounts : List (List ℕ)) (old new : AssetList) (balances earmarks :
           ∙ ap (held accounts (with_units balances (account, asset) balance) (with_units earmarks (account, asset) earmark)) (sym (same_name_is q asset e))
       by false e = set q ∙ ap (λ t. cond t total (total_at old q)) e ∙ kept.totals q ∙ sym (held_other accounts balances earmarks account asset balance earmark q e)
 
-  limit_kept : (q : List ℕ) → total_at new q ≤ LIMIT
-  limit_kept q = let P : ℕ → Type 0 = λ n. n ≤ LIMIT in subst P (sym (set q)) (by (same_name q asset))
+  limit_kept : (q : List ℕ) → total_at new q ≤ most_total
+  limit_kept q = let P : ℕ → Type 0 = λ n. n ≤ most_total in subst P (sym (set q)) (by (same_name q asset))
     where
-      by : (b : Bool) → cond b total (total_at old q) ≤ LIMIT
+      by : (b : Bool) → cond b total (total_at old q) ≤ most_total
       by true = limited
       by false = kept.limit q
 
@@ -60,7 +61,7 @@ module _ (accounts : List (List ℕ)) (old new : AssetList) (balances earmarks :
       let zero_before = kept.known a q absent in
       omega (arith, one, two, zero_before)
 
-  length_kept : length new.listings ≤ MOST
+  length_kept : length new.listings ≤ most_codes
   length_kept =
       let same : length (prices new.listings) ≡ length (prices old.listings) = ap length priced in
       let fit = kept.codes_fit in
@@ -83,7 +84,7 @@ module _ (accounts : List (List ℕ)) (old new : AssetList) (balances earmarks :
   total_moved q = sym (totals_kept q) ∙ set q ∙ ap (cond (same_name q asset) total) (kept.totals q)
 
 -- an account more keeps the book balanced
-pub kept_account : (names : NameList) (assets : AssetList) (balances earmarks : Units) (account : List ℕ) → IsBalanced names.names assets balances earmarks → length names.names + 1 ≤ MOST →
+pub kept_account : (names : NameList) (assets : AssetList) (balances earmarks : Units) (account : List ℕ) → IsBalanced names.names assets balances earmarks → length names.names + 1 ≤ most_codes →
     IsBalanced (with_name names account).names assets balances earmarks
 kept_account names assets balances earmarks account kept fit = by (has_account names.names account) refl
   where
@@ -117,7 +118,7 @@ held_account names assets balances earmarks account kept q = by (has_account nam
 
 -- a code more keeps the book balanced
 pub kept_code : (accounts : List (List ℕ)) (old new : AssetList) (balances earmarks : Units) (code : List ℕ) (price : ℕ) → IsBalanced accounts old balances earmarks →
-    has_asset (prices old.listings) code ≡ false → length old.listings + 1 ≤ MOST → prices new.listings ≡ prices old.listings ++ (code, price) ∷ [] →
+    has_asset (prices old.listings) code ≡ false → length old.listings + 1 ≤ most_codes → prices new.listings ≡ prices old.listings ++ (code, price) ∷ [] →
     ((q : List ℕ) → total_at new q ≡ total_at old q) → IsBalanced accounts new balances earmarks
 kept_code accounts old new balances earmarks code price kept absent fit priced same = record {
   distinct = kept.distinct;
@@ -128,7 +129,7 @@ kept_code accounts old new balances earmarks code price kept absent fit priced s
   cash_apart = ap (λ ps. price_of ps cash) priced
       ∙ price_after (prices old.listings) code price cash kept.cash_apart (same_name_symm cash code ∙ first_false (same_name code cash) (is_some (price_of (prices old.listings) code)) absent);
   totals = λ q. same q ∙ kept.totals q;
-  limit = λ q. let P : ℕ → Type 0 = λ n. n ≤ LIMIT in subst P (sym (same q)) (kept.limit q);
+  limit = λ q. let P : ℕ → Type 0 = λ n. n ≤ most_total in subst P (sym (same q)) (kept.limit q);
   known = kept.known;
 }
 
@@ -151,7 +152,7 @@ kept_new = record {
   codes_fit = omega arith;
   cash_apart = refl;
   totals = λ q. totals_none (same_name q cash);
-  limit = λ q. let P : ℕ → Type 0 = λ n. n ≤ LIMIT in subst P (sym (totals_none (same_name q cash))) (omega arith);
+  limit = λ q. let P : ℕ → Type 0 = λ n. n ≤ most_total in subst P (sym (totals_none (same_name q cash))) (omega arith);
   known = λ a q absent. let none = no_units (a, q) in omega (arith, none);
 }
 

@@ -7,7 +7,7 @@ use Rattle.std.specs.List.{IsDistinct}
 use Rattle.dali_account.specs.declared.net.Move.{Move}
 use Rattle.dali_account.specs.Units.{PairKey, Units, units_of}
 use Rattle.dali_account.specs.Book.{same_name, cash, has_account, has_asset, price_of, held}
-use Rattle.dali_account.specs.Refusals.{LIMIT}
+use Rattle.dali_base.specs.Limits.{most_total}
 use Rattle.dali_account.specs.AssetList.{AssetList, prices, total_at}
 use Rattle.dali_account.specs.BookKept.{IsBalanced}
 use Rattle.dali_account.specs.Net.{IsNet, pair_of, after_move, with_move, with_net, asset_delta}
@@ -20,8 +20,8 @@ use Rattle.dali_account.proofs.PostLemmas.{Ready, ready_start, ready_more, betwe
 -- a net is posted but for the rest
 pub record Midway (accounts : List (List ℕ)) (codes : List (List ℕ × ℕ)) (earmarks : Units) (assets : AssetList) (start now : Units) (net rest : List Move) : Type 0 where
   pub distinct : IsDistinct same_name accounts
-  pub limit_start : (q : List ℕ) → held accounts start earmarks q ≤ LIMIT
-  pub limit_end : (q : List ℕ) → held accounts (with_net start net) earmarks q ≤ LIMIT
+  pub limit_start : (q : List ℕ) → held accounts start earmarks q ≤ most_total
+  pub limit_end : (q : List ℕ) → held accounts (with_net start net) earmarks q ≤ most_total
   pub summed : (q : List ℕ) → pos (held accounts (with_net start net) earmarks q) ≡ pos (held accounts start earmarks q) +ℤ asset_delta net q
   pub priced : prices assets.listings ≡ codes
   pub result : with_net now rest ≡ with_net start net
@@ -30,7 +30,7 @@ pub record Midway (accounts : List (List ℕ)) (codes : List (List ℕ × ℕ)) 
   pub known : (a q : List ℕ) → has_account accounts a ≡ false → units_of now (a, q) + units_of earmarks (a, q) ≡ 0
   pub ready : Ready accounts codes now rest
 
-fits : (n : ℕ) (delta : ℤ) → pos 0 ≤ℤ (pos n +ℤ delta) → after_move n delta ≤ 2 * LIMIT → FitsUnsigned w64 (pos n +ℤ delta)
+fits : (n : ℕ) (delta : ℤ) → pos 0 ≤ℤ (pos n +ℤ delta) → after_move n delta ≤ 2 * most_total → FitsUnsigned w64 (pos n +ℤ delta)
 fits n (pos k) h bound = let b = after_balance n (pos k) h in (h, omega (arith, ints, b, bound))
 fits n (negsuc k) h bound = let b = after_balance n (negsuc k) h in (h, omega (arith, ints, b, bound))
 
@@ -53,7 +53,7 @@ module _ (accounts : List (List ℕ)) (codes : List (List ℕ × ℕ)) (earmarks
       let same : units_of (with_net (with_move now x) ms) p ≡ units_of (with_net start net) p = ap (λ m. units_of m p) mid.result in
       omega (arith, step, same)
 
-  bounded_sum : (q : List ℕ) → held accounts (with_move now x) earmarks q ≤ 2 * LIMIT
+  bounded_sum : (q : List ℕ) → held accounts (with_move now x) earmarks q ≤ 2 * most_total
   bounded_sum q =
       let f : List ℕ → ℕ = λ a. units_of start (a, q) + units_of earmarks (a, q) in
       let g : List ℕ → ℕ = λ a. units_of (with_net start net) (a, q) + units_of earmarks (a, q) in
@@ -133,12 +133,12 @@ next_rest items i x lt is = drop-cons items i x lt ∙ ap (λ y. y ∷ drop (suc
 pub midway_start : (accounts : List (List ℕ)) (assets : AssetList) (earmarks start : Units) (net : List Move) → IsBalanced accounts assets start earmarks → IsNet net →
     All (λ (m : Move). (has_account accounts m.account && has_asset (prices assets.listings) m.asset) ≡ true) net →
     All (λ (m : Move). pos 0 ≤ℤ (pos (units_of start (pair_of m)) +ℤ m.delta)) net →
-    ((q : List ℕ) → held accounts (with_net start net) earmarks q ≤ LIMIT) →
+    ((q : List ℕ) → held accounts (with_net start net) earmarks q ≤ most_total) →
     Midway accounts (prices assets.listings) earmarks assets start start net net
 midway_start accounts assets earmarks start net kept is_net known covered limit =
     let ready = ready_start accounts (prices assets.listings) start net is_net.rising known covered in record {
       distinct = kept.distinct;
-      limit_start = λ q. let P : ℕ → Type 0 = λ n. n ≤ LIMIT in subst P (kept.totals q) (kept.limit q);
+      limit_start = λ q. let P : ℕ → Type 0 = λ n. n ≤ most_total in subst P (kept.totals q) (kept.limit q);
       limit_end = limit;
       summed = λ q. held_net accounts (prices assets.listings) earmarks q kept.distinct net start ready;
       priced = refl;
@@ -162,7 +162,7 @@ midway_end accounts old assets earmarks start now net kept mid = record {
   cash_apart = ap (λ codes. price_of codes cash) mid.priced ∙ kept.cash_apart;
   totals = mid.totals;
   limit = λ q.
-      let P : ℕ → Type 0 = λ n. n ≤ LIMIT in
+      let P : ℕ → Type 0 = λ n. n ≤ most_total in
       subst P (sym (mid.totals q ∙ ap (λ m. held accounts m earmarks q) mid.result)) (mid.limit_end q);
   known = mid.known;
 }

@@ -5,14 +5,6 @@ use Rattle.dali_account.specs.declared.refusal.BookNo.TheVariants.{There, Full, 
 use Rattle.dali_account.specs.Limits.{most_accounts, most_codes}
 use Rattle.dali_account.specs.Book.{BookRecord, has_account, has_asset, knows_pair, balance_of, earmark_of, total_of}
 
--- the most accounts, which are as many as the most codes
-abbrev pub MOST : ℕ
-MOST = most_accounts
-
--- the most units of an asset
-abbrev pub LIMIT : ℕ
-LIMIT = most_total
-
 -- each call's refusal, the first of its list that holds
 abbrev pub account_refusal : BookRecord → List ℕ → Option BookNo
 account_refusal b account =

@@ -11,6 +11,7 @@ use Rattle.dali_tree.specs.declared.tree.End.TheOpen.{End-F}
 use Rattle.dali_tree.specs.declared.tree.End.TheFolds.{fold-Tree}
 use Rattle.dali_tree.specs.declared.choice.Part.{Part}
 use Rattle.dali_lagrange.specs.Bound.{reduced, sum_of}
+use Rattle.dali_lagrange.specs.Limits.{scale}
 use Rattle.dali_lagrange.specs.Multipliers.{multiplier}
 use Rattle.dali_lagrange.specs.Settled.{is_settled}
 use Rattle.dali_fixes.specs.Fixed.{after}
@@ -19,7 +20,7 @@ use Rattle.dali_check.specs.Proves.{closes}
 
 -- the bound of these multipliers, the Sum in whole 4,096ths, is at least u
 unfoldable pub reaches : Clearing → ℕ → List (ℕ × ℕ) → List Mark → Bool
-reaches p u lam f = le_z (pos (4096 * u)) (sum_of p f (multiplier lam))
+reaches p u lam f = le_z (pos (scale * u)) (sum_of p f (multiplier lam))
 
 -- no fix rule holds for any undecided member, with any line
 unfoldable pub is_reduced : Clearing → List Mark → Bool

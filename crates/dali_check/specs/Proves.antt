@@ -10,13 +10,14 @@ use Rattle.dali_tree.specs.declared.tree.End.TheOpen.{End-F}
 use Rattle.dali_tree.specs.declared.tree.End.TheFolds.{fold-Tree}
 use Rattle.dali_tree.specs.declared.choice.Part.{Part}
 use Rattle.dali_lagrange.specs.Bound.{sum_of}
+use Rattle.dali_lagrange.specs.Limits.{scale}
 use Rattle.dali_lagrange.specs.Multipliers.{multiplier}
 use Rattle.dali_fixes.specs.Fixed.{after}
 use Rattle.dali_check.specs.Sides.{opened, when_fixed}
 
 -- no set that agrees is worth more than the bound, by the Sum at these multipliers
 unfoldable pub closes : Clearing → ℕ → List (ℕ × ℕ) → List Mark → Bool
-closes p bound lam f = lt_z (sum_of p f (multiplier lam)) (pos (4096 * (bound + 1)))
+closes p bound lam f = lt_z (sum_of p f (multiplier lam)) (pos (scale * (bound + 1)))
 
 -- how an end proves a bound at a partial choice; a side stands for what it proves
 abbrev pub proves_end : Clearing → ℕ → End-F (List Mark → Bool) (List Mark → Bool) → List Mark → Bool

@@ -9,13 +9,18 @@ ghost use Rattle.dali_problem.specs.Partial.{mark, is_undecided, is_chosen};
 ghost use Rattle.dali_problem.specs.Kept.{IsOf};
 ghost use Rattle.dali_tree.specs.Range.{lam_in_range};
 ghost use Rattle.dali_lagrange.specs.KeptSum.{IsSumOf};
+ghost use Rattle.dali_lagrange.specs.Limits.{scale};
 ghost use Rattle.dali_check.specs.Lean.{reaches, nearness, is_nearest, is_worked, is_tight};
 ghost use Rattle.dali_check.specs.Room.{IsReady, StandsFor, as_member};
 
 use crate::reduced::is_reduced;
 use dali_lagrange::Kept;
+use dali_lagrange::limits::SCALE;
 use dali_problem::{Mark, Partial, Problem};
 use dali_tree::Lam;
+
+/// A centavo on the scale of the Sum.
+const CENTAVO: i128 = SCALE as i128;
 
 /// Takes on the marks of a partial choice and these multipliers. Costs the places, the lines and what touches the
 /// lines whose multipliers change.
@@ -119,16 +124,16 @@ pub(crate) fn is_tight(kept: &Kept, bound: u64) -> bool
 
 #[tactic(auto, using(std::proofs::lemmas::Int::ints))]
 fn is_at_least(sum: &i128, bound: u64) -> bool
-    ensures { result ≡ le_z (pos (4096 * bound)) sum.now }
+    ensures { result ≡ le_z (pos (scale * bound)) sum.now }
 {
-    4096 * i128::from(bound) <= *sum
+    CENTAVO * i128::from(bound) <= *sum
 }
 
 #[tactic(auto, using(std::proofs::lemmas::Int::ints))]
 fn is_above(sum: &i128, value: u64) -> bool
-    ensures { result ≡ le_z (pos (4096 * (value + 1))) sum.now }
+    ensures { result ≡ le_z (pos (scale * (value + 1))) sum.now }
 {
-    4096 * (i128::from(value) + 1) <= *sum
+    CENTAVO * (i128::from(value) + 1) <= *sum
 }
 
 /// Whether the multipliers are settled, and no fix rule is left.

@@ -5,14 +5,15 @@ use Rattle.dali_problem.specs.Sums.{sum_below, pick}
 use Rattle.dali_problem.specs.Clearing.{Clearing, worth, effect}
 use Rattle.dali_problem.specs.Limits.{Within}
 use Rattle.dali_problem.specs.Partial.{mark, is_chosen, is_undecided, held}
+use Rattle.dali_lagrange.specs.Limits.{scale}
 
 -- the value of place j on the scale of 4,096, with what its effects are worth at these multipliers
 abbrev pub reduced : Clearing → (ℕ → ℕ) → ℕ → ℤ
-reduced p lam j = pos 4096 *ℤ pos (worth p j) +ℤ sum_below (λ l. pos (lam l) *ℤ effect p j l) (length p.lines)
+reduced p lam j = pos scale *ℤ pos (worth p j) +ℤ sum_below (λ l. pos (lam l) *ℤ effect p j l) (length p.lines)
 
 -- the values of the chosen, on the scale
 abbrev pub values_part : Clearing → List Mark → ℤ
-values_part p f = pos 4096 *ℤ sum_below (λ j. pick (is_chosen (mark f j)) (pos (worth p j))) (length p.items)
+values_part p f = pos scale *ℤ sum_below (λ j. pick (is_chosen (mark f j)) (pos (worth p j))) (length p.items)
 
 -- what each line holds, times its multiplier
 abbrev pub multipliers_part : Clearing → List Mark → (ℕ → ℕ) → ℤ
@@ -35,7 +36,7 @@ pub record ArePartsSmall (p : Clearing) (f : List Mark) (lam : ℕ → ℕ) : Ty
 
 -- the bound that a Sum gives, in centavos: the floor of its 4,096th part, also where it is below 0
 abbrev pub bound_of : ℤ → ℤ
-bound_of s = int_div_euclid s (pos 4096)
+bound_of s = int_div_euclid s (pos scale)
 
 -- what a place with this mark and this reduced value counts, where each line counts its balance alone
 abbrev pub counted : Mark → ℤ → ℤ

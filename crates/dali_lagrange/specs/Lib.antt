@@ -1,3 +1,4 @@
+pub mod Limits
 pub mod Multipliers
 pub mod Bound
 pub mod Best

@@ -8,6 +8,7 @@
 
 mod best;
 mod kept;
+pub mod limits;
 mod listed;
 mod point;
 mod probe;

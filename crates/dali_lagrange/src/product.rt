@@ -1,13 +1,10 @@
 ghost use Rattle.std.specs.Prelude.{◌≡◌, ◌*◌, ◌^◌, ◌≤◌, ℤ, pos, ◌+ℤ◌, ◌-ℤ◌, ◌*ℤ◌};
-ghost use Rattle.dali_base.specs.Limits.{most_multiplier};
+ghost use Rattle.dali_base.specs.Limits.{most_effect, most_multiplier};
 ghost use Rattle.dali_problem.specs.Limits.{Within};
 ghost use Rattle.dali_problem.specs.Sums.{pick};
 ghost use Rattle.dali_lagrange.specs.Bound.{counted};
 
 use dali_problem::{Effect, Mark};
-
-/// The scale of multipliers: this many to the centavo.
-pub(crate) const SCALE: u64 = 4096;
 
 /// A multiplier times an effect's amount.
 #[tactic(auto, using(std::proofs::lemmas::Int::ints))]
@@ -62,7 +59,7 @@ pub(crate) fn add_scaled(total: &mut i128, factor: u64, amount: u64)
 pub(crate) fn add_weighted(total: &mut i128, factor: u64, effect: &Effect)
     requires total { Within (2 ^ 125) total.old }
     requires factor { factor ≤ most_multiplier }
-    requires amount { Within (8 * 10 ^ 15) effect.now.amount }
+    requires amount { Within most_effect effect.now.amount }
     ensures { total.new ≡ total.old +ℤ pos factor *ℤ effect.now.amount }
 {
     let more = weighted(factor, effect);

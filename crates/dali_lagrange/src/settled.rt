@@ -8,14 +8,15 @@ ghost use Rattle.dali_lagrange.specs.Still.{IsGain, IsStillAt, IsStill};
 
 use crate::best::is_at_most;
 use crate::kept::Kept;
+use crate::limits::{GAIN_PARTS, SCALE};
 use dali_base::limits::MOST_MULTIPLIER;
 use dali_problem::Problem;
 
-/// A Sum below this isn't settled further.
-pub(crate) const SETTLED_BELOW: i128 = 4096;
+/// A Sum below this isn't settled further: it is less than a centavo.
+pub(crate) const SETTLED_BELOW: i128 = SCALE as i128;
 
 /// A change of a multiplier is a gain where it takes at least one of so many equal parts of the Sum.
-const GAIN_PART: i128 = 1024;
+const GAIN_PART: i128 = GAIN_PARTS as i128;
 
 /// How far from a line's multiplier its best one is looked for first, and by what this range grows where it isn't there.
 const NEAR_RANGE: u64 = 1 << 16;

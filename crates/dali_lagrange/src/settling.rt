@@ -3,6 +3,7 @@ ghost use Rattle.dali_problem.specs.Kept.{IsOf};
 ghost use Rattle.dali_tree.specs.Fits.{lam_fits};
 ghost use Rattle.dali_lagrange.specs.Bound.{sum_of};
 ghost use Rattle.dali_lagrange.specs.KeptSum.{IsSumOf};
+ghost use Rattle.dali_lagrange.specs.Limits.{scale};
 ghost use Rattle.dali_lagrange.specs.Multipliers.{AreMultipliers, multiplier};
 ghost use Rattle.dali_lagrange.specs.Settled.{IsSettled};
 ghost use Rattle.dali_lagrange.specs.Still.{IsStill, IsStillAt};
@@ -62,7 +63,7 @@ impl Kept {
         ensures marks { self.new.marks ≡ self.old.marks }
         ensures of { IsSumOf problem.now self.new }
         ensures not_above { self.new.total ≤ℤ self.old.total }
-        ensures still { pos 4096 ≤ℤ self.new.total → IsStill problem.now self.new.marks self.new.multipliers self.new.total }
+        ensures still { pos scale ≤ℤ self.new.total → IsStill problem.now self.new.marks self.new.multipliers self.new.total }
     {
         while self.sum() >= SETTLED_BELOW {
             if !self.pass(problem) {

@@ -4,9 +4,11 @@ ghost use Rattle.dali_problem.specs.Clearing.{worth};
 ghost use Rattle.dali_problem.specs.Kept.{IsOf, AllUndecided};
 ghost use Rattle.dali_problem.specs.Limits.{Within};
 ghost use Rattle.dali_lagrange.specs.Bound.{sum_of};
+ghost use Rattle.dali_lagrange.specs.Limits.{scale};
 ghost use Rattle.dali_lagrange.specs.Touched.{reduced_in};
 
-use crate::product::{SCALE, add_counted, scaled};
+use crate::limits::SCALE;
+use crate::product::{add_counted, scaled};
 use dali_base::OutOfMemory;
 use dali_problem::{Mark, Partial, Problem};
 use std::alloc::Global;
@@ -47,7 +49,7 @@ pub(crate) fn marks_of(
 /// Each place's value on the scale.
 pub(crate) fn values(alloc: Global, problem: &Problem) -> Result<Vec<i128>, OutOfMemory>
     ensures size { IfOk result (λ values. length values.items ≡ length problem.now.items) }
-    ensures exact { IfOk result (λ values. (j : ℕ) → j < length problem.now.items → reduced_in values.items j ≡ pos 4096 *ℤ pos (worth problem.now j)) }
+    ensures exact { IfOk result (λ values. (j : ℕ) → j < length problem.now.items → reduced_in values.items j ≡ pos scale *ℤ pos (worth problem.now j)) }
     ensures bounded { IfOk result (λ values. All (Within (2 ^ 103)) values.items) }
 {
     let mut values = Vec::with_capacity(alloc, problem.items() as usize)?;

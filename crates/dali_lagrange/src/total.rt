@@ -8,10 +8,12 @@ ghost use Rattle.dali_problem.specs.Limits.{Within, AreEffects, IsProblem};
 ghost use Rattle.dali_problem.specs.Partial.{mark, Agrees};
 ghost use Rattle.dali_problem.specs.Kept.{IsOf};
 ghost use Rattle.dali_lagrange.specs.Bound.{reduced, sum_of, bound_of, counted, ArePartsSmall};
+ghost use Rattle.dali_lagrange.specs.Limits.{scale};
 
+use crate::limits::SCALE;
 use crate::point::Point;
 use crate::probe::Probe;
-use crate::product::{SCALE, add_counted, add_scaled, add_weighted, scaled};
+use crate::product::{add_counted, add_scaled, add_weighted, scaled};
 use dali_problem::{Effect, Partial, Problem};
 
 /// The Sum of a partial choice at a point, as `specs/Bound.antt` defines it: 4,096 times an upper bound on what any
@@ -22,7 +24,7 @@ pub fn sum(problem: &Problem, partial: &Partial, point: &Point) -> i128
     ensures exact { result ≡ sum_of problem.now partial.now.marks (slice_index point.now) }
     ensures bounded { Within (2 ^ 117 - 1) result }
     ensures parts { ArePartsSmall problem.now partial.now.marks (slice_index point.now) }
-    ensures bound { (t : List ℕ) → ArePlaces problem.now t → IsFeasible problem.now t → Agrees partial.now.marks t → pos (4096 * value_of problem.now t) ≤ℤ result }
+    ensures bound { (t : List ℕ) → ArePlaces problem.now t → IsFeasible problem.now t → Agrees partial.now.marks t → pos (scale * value_of problem.now t) ≤ℤ result }
     ensures floor { (t : List ℕ) → ArePlaces problem.now t → IsFeasible problem.now t → Agrees partial.now.marks t → pos (value_of problem.now t) ≤ℤ bound_of result }
 {
     sum_at(problem, partial, &Probe::of(point))

@@ -2,7 +2,7 @@ use Rattle.std.specs.Prelude.{◌≡◌, ℕ, ◌+◌, ◌&&◌, ℤ, pos, unsig
 use Rattle.dali_account.specs.declared.net.Move.{Move}
 use Rattle.dali_account.specs.Book.{same_name}
 use Rattle.dali_account.specs.Net.{pair_of}
-use Rattle.dali_account.specs.Refusals.{LIMIT}
+use Rattle.dali_base.specs.Limits.{most_total}
 use Rattle.dali_account.specs.Units.{PairKey}
 use Rattle.dali_ledger.specs.declared.posting.Posting.{Posting}
 
@@ -39,7 +39,7 @@ posted ps command net = fold (λ qs m. with_move qs command m) ps net
 -- from 0 to 10^18
 pub record IsSum (z : ℤ) : Type 0 where
   pub low : pos 0 ≤ℤ z
-  pub high : z ≤ℤ pos LIMIT
+  pub high : z ≤ℤ pos most_total
 
 -- numbered 1, 2 and so on, each with the sum of its pair's deltas up to it, and no sum ever outside its bounds
 pub record IsLedger (ps : List Posting) : Type 0 where

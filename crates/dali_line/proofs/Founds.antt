@@ -3,8 +3,9 @@ use Rattle.std.proofs.lemmas.Bool.Decides.{nat_tests}
 use Rattle.std.specs.Prelude.{IfErr, Ok, Err, nat_le}
 use Rattle.std.specs.declared.result.Result.{Result}
 use Rattle.dali_base.proofs.Spelled.{and_parts}
+use Rattle.dali_line.specs.Limits.{most_command}
 use Rattle.dali_line.specs.Commands.{is_command}
-use Rattle.dali_line.specs.Line.{is_line, MOST_OF_COMMAND}
+use Rattle.dali_line.specs.Line.{is_line}
 use Rattle.dali_line.specs.Lines.{Reach, FirstIsLong, Stops, MeetsLine}
 use Rattle.dali_line.specs.Open.{Open}
 use Rattle.dali_line.specs.Scan.{Finds, AtEnd, IsEnded, EndsWith, CutsOff}
@@ -22,10 +23,10 @@ if_err (Err e) P Q is more = more e is
 pub line_begins : (bytes : List ℕ) → is_line bytes ≡ true → is_command bytes ≡ true
 line_begins bytes told = (and_parts _ _ (and_parts _ _ told).0).0
 
-pub line_short : (bytes : List ℕ) → is_line bytes ≡ true → length bytes ≤ MOST_OF_COMMAND
+pub line_short : (bytes : List ℕ) → is_line bytes ≡ true → length bytes ≤ most_command
 line_short bytes told =
-    let test : nat_le (length bytes) MOST_OF_COMMAND ≡ true =
-    (and_parts (is_command bytes) (nat_le (length bytes) MOST_OF_COMMAND) (and_parts _ _ told).0).1 in
+    let test : nat_le (length bytes) most_command ≡ true =
+    (and_parts (is_command bytes) (nat_le (length bytes) most_command) (and_parts _ _ told).0).1 in
     grind (arith, nat_tests)
 
 pub ended_found : (told : Bool) (old now : Reach) (bytes : List ℕ) → MeetsLine told bytes old now → (found : Found) → IsEnded bytes found → Finds told old now found

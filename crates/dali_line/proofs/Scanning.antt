@@ -2,9 +2,9 @@ use Rattle.std.proofs.Common.{◌≡◌, ◌≢◌, ◌∙◌, inl, inr, ℕ, ze
 use Rattle.std.proofs.lemmas.List.{length-append}
 use Rattle.std.specs.Prelude.{IsTrue}
 use Rattle.std.specs.Str.Lines.{strip_carriage_return}
+use Rattle.dali_line.specs.Limits.{most_command, most_file}
 use Rattle.dali_line.specs.Commands.{is_command, commands, ended_commands}
-use Rattle.dali_line.specs.Lines.{Reach, FirstIsLong, IsLong, BreaksOff, MeetsLine, MeetsLast, WantsMemory, MOST_OF_FILE}
-use Rattle.dali_line.specs.Line.{MOST_OF_COMMAND}
+use Rattle.dali_line.specs.Lines.{Reach, FirstIsLong, IsLong, BreaksOff, MeetsLine, MeetsLast, WantsMemory}
 use Rattle.dali_line.specs.Open.{Open, InOneLine, is_comment, StandsFor, IsTooLong, Midway, nothing_open}
 use Rattle.dali_line.proofs.Ends.{comment_skipped, cut_starts, cut_more, cut_skips, cut_gives, cut_gives_ended, cut_stops, cut_stops_ended, long_whatever, with_newline, starts_nothing}
 
@@ -73,7 +73,7 @@ module _ (told : Bool) (old now : Reach) (line : Open) (m : Midway told old line
   }
 
   -- more bytes came into the block
-  pub got_more : (more left : List ℕ) → now.pending ≡ [] → (IsTrue told → now.left ≡ more ++ left) → now.taken + length more ≤ MOST_OF_FILE →
+  pub got_more : (more left : List ℕ) → now.pending ≡ [] → (IsTrue told → now.left ≡ more ++ left) → now.taken + length more ≤ most_file →
       Midway told old line (record { pending = more; taken = now.taken + length more; left = left })
   got_more more left empty moved within = record {
     got = m.got ++ more;
@@ -137,7 +137,7 @@ module _ (told : Bool) (old now : Reach) (line : Open) (m : Midway told old line
   all_commands empty = ap commands (all_used empty) ∙ cut_stops m.used m.raw m.cut
 
 -- where a call starts
-pub midway_starts : (told : Bool) (old : Reach) → old.taken ≤ MOST_OF_FILE → Midway told old nothing_open old
+pub midway_starts : (told : Bool) (old : Reach) → old.taken ≤ most_file → Midway told old nothing_open old
 midway_starts told old within = record {
   got = [];
   gets = record { moved = λ tells. refl; taken = omega arith; within = within };
@@ -161,10 +161,10 @@ used_some [] line first = absurd (cc (first []))
 used_some (b ∷ used) line first = omega arith
 
 -- a command was met, and there was no room for it
-pub wanted_line : (told : Bool) (line : List ℕ) (old new : Reach) → length line ≤ MOST_OF_COMMAND → MeetsLine told line old new → WantsMemory told old new
+pub wanted_line : (told : Bool) (line : List ℕ) (old new : Reach) → length line ≤ most_command → MeetsLine told line old new → WantsMemory told old new
 wanted_line told line old new short met =
     record { got = met.got; moved = met.gets.moved; within = omega (arith, met.gets.taken, met.gets.within); line = line; short = short; met = inl met }
 
-pub wanted_last : (told : Bool) (line : List ℕ) (old new : Reach) → length line ≤ MOST_OF_COMMAND → MeetsLast told line old new → WantsMemory told old new
+pub wanted_last : (told : Bool) (line : List ℕ) (old new : Reach) → length line ≤ most_command → MeetsLast told line old new → WantsMemory told old new
 wanted_last told line old new short met =
     record { got = met.got; moved = met.gets.moved; within = omega (arith, met.gets.taken, met.gets.within); line = line; short = short; met = inr met }

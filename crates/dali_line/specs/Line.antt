@@ -9,4 +9,4 @@ MOST_OF_COMMAND = most_command
 
 -- what a history keeps as a line: a command of at most so many bytes in one line
 abbrev pub is_line : List ℕ → Bool
-is_line bytes = is_command bytes && nat_le (length bytes) MOST_OF_COMMAND && list_all (λ b. not (b == 10)) bytes
+is_line bytes = is_command bytes && nat_le (length bytes) most_command && list_all (λ b. not (b == 10)) bytes

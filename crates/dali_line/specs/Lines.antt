@@ -1,8 +1,7 @@
 use Rattle.std.specs.Prelude.{◌≡◌, ℕ, ◌+◌, ◌<◌, ◌≤◌, ◌⊎◌, Bool, true, false, IsTrue, List, [], ◌∷◌, ◌++◌, length}
 use Rattle.dali_outside.specs.Outside.{Feed}
 use Rattle.dali_line.specs.Commands.{commands, ended_commands}
-use Rattle.dali_line.specs.Limits.{most_file}
-use Rattle.dali_line.specs.Line.{MOST_OF_COMMAND}
+use Rattle.dali_line.specs.Limits.{most_command, most_file}
 use Rattle.dali_line.specs.declared.line_end.LineEnd.{LineEnd}
 use Rattle.dali_line.specs.declared.line_end.LineEnd.TheVariants.{ReadFault, LongLine, LongFile, OutOfMemory}
 
@@ -34,12 +33,12 @@ reach pending taken feed = record { pending = pending; taken = taken; left = fee
 pub record Gets (told : Bool) (old : Reach) (got : List ℕ) (new : Reach) : Type 0 where
   pub moved : IsTrue told → old.left ≡ got ++ new.left
   pub taken : new.taken ≡ old.taken + length got
-  pub within : new.taken ≤ MOST_OF_FILE
+  pub within : new.taken ≤ most_file
 
 -- the first of these commands has more than 200 bytes
 abbrev pub FirstIsLong : List (List ℕ) → Type 0
 FirstIsLong [] = ⊥
-FirstIsLong (command ∷ more) = MOST_OF_COMMAND < length command
+FirstIsLong (command ∷ more) = most_command < length command
 
 -- whatever follows these bytes, their first command has a 201st byte
 abbrev pub IsLong : List ℕ → Type 0
@@ -80,14 +79,14 @@ pub record BreaksOff (told : Bool) (old new : Reach) : Type 0 where
 -- the end of input was met within the limit, and by it the next command has a 201st byte
 pub record IsLongAtEnd (told : Bool) (got : List ℕ) (old new : Reach) : Type 0 where
   pub long : FirstIsLong (commands (old.pending ++ got))
-  pub within : old.taken + length got ≤ MOST_OF_FILE
+  pub within : old.taken + length got ≤ most_file
   pub end : IsTrue told → new.left ≡ []
 
 -- the next command has a 201st byte, whatever follows, or by the end of input
 pub record FindsLong (told : Bool) (old new : Reach) : Type 0 where
   pub got : List ℕ
   pub moved : IsTrue told → old.left ≡ got ++ new.left
-  pub within : old.taken + length got ≤ MOST_OF_FILE + 1
+  pub within : old.taken + length got ≤ most_file + 1
   pub long : IsLong (old.pending ++ got) ⊎ IsLongAtEnd told got old new
 
 -- a byte past the limit was taken: no command had ended within the limit, and none was long
@@ -95,7 +94,7 @@ pub record PassesLimit (told : Bool) (old new : Reach) : Type 0 where
   pub got : List ℕ
   pub past : ℕ
   pub moved : IsTrue told → old.left ≡ (got ++ past ∷ []) ++ new.left
-  pub limit : old.taken + length got ≡ MOST_OF_FILE
+  pub limit : old.taken + length got ≡ most_file
   pub none_ended : ended_commands (old.pending ++ got) ≡ []
   pub none_long : ¬ (IsLong (old.pending ++ (got ++ past ∷ [])))
 
@@ -110,9 +109,9 @@ pub record Gives (told : Bool) (line : List ℕ) (old new : Reader) (before afte
 pub record WantsMemory (told : Bool) (old new : Reach) : Type 0 where
   pub got : List ℕ
   pub moved : IsTrue told → old.left ≡ got ++ new.left
-  pub within : old.taken + length got ≤ MOST_OF_FILE
+  pub within : old.taken + length got ≤ most_file
   pub line : List ℕ
-  pub short : length line ≤ MOST_OF_COMMAND
+  pub short : length line ≤ most_command
   pub met : MeetsLine told line old new ⊎ MeetsLast told line old new
 
 -- the end of input was met, and no command was left

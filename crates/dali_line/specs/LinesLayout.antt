@@ -1,5 +1,6 @@
 use Rattle.std.specs.Prelude.{◌+◌, ◌≤◌, length}
-use Rattle.dali_line.specs.Lines.{Reader, MOST_OF_FILE}
+use Rattle.dali_line.specs.Limits.{most_file}
+use Rattle.dali_line.specs.Lines.{Reader}
 use Rattle.dali_line.specs.declared.lines.Lines.TheInside.{Inside}
 
 abbrev pub reader_of : Inside → Reader
@@ -8,4 +9,4 @@ reader_of a = record { pending = a.block; taken = a.taken; given = a.given; over
 -- each command that was given took a byte
 pub record IsCounted (a : Inside) : Type 0 where
   pub counted : a.given + length a.block ≤ a.taken
-  pub within : a.taken ≤ MOST_OF_FILE
+  pub within : a.taken ≤ most_file

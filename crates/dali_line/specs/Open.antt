@@ -1,8 +1,8 @@
 use Rattle.std.specs.Prelude.{◌≡◌, ℕ, ◌==◌, ◌≤◌, ◌<◌, Bool, false, List, [], ◌∷◌, ◌++◌, length, vec_capacity}
 use Rattle.std.specs.List.{All}
 use Rattle.std.specs.Str.Lines.{strip_carriage_return}
+use Rattle.dali_line.specs.Limits.{most_command}
 use Rattle.dali_line.specs.Commands.{commands, ended_commands}
-use Rattle.dali_line.specs.Line.{MOST_OF_COMMAND}
 use Rattle.dali_line.specs.Lines.{Gets, Reach}
 use Rattle.dali_line.specs.declared.open_line.OpenLine.TheInside.{Inside}
 
@@ -28,23 +28,23 @@ open_of a = record { skips = a.skips; kept = a.kept.items }
 
 -- what is kept could be a command, and there is room for one and a CR
 pub record IsOpen (a : Inside) : Type 0 where
-  pub short : length (strip_carriage_return a.kept.items) ≤ MOST_OF_COMMAND
+  pub short : length (strip_carriage_return a.kept.items) ≤ most_command
   pub one : InOneLine a.kept.items
   pub plain : is_comment a.kept.items ≡ false
-  pub room : MOST_OF_COMMAND < vec_capacity a.kept
+  pub room : most_command < vec_capacity a.kept
 
 -- what is open of a line that began with these bytes, and may still be a command or a comment
 pub record StandsFor (raw : List ℕ) (line : Open) : Type 0 where
   pub one : InOneLine raw
   pub skips : line.skips ≡ is_comment raw
   pub kept : line.skips ≡ false → line.kept ≡ raw
-  pub short : line.skips ≡ false → length (strip_carriage_return raw) ≤ MOST_OF_COMMAND
+  pub short : line.skips ≡ false → length (strip_carriage_return raw) ≤ most_command
 
 -- bytes that are no comment, and whose line is longer than a command whatever follows
 pub record IsTooLong (raw : List ℕ) : Type 0 where
   pub one : InOneLine raw
   pub plain : is_comment raw ≡ false
-  pub long : MOST_OF_COMMAND < length (strip_carriage_return raw)
+  pub long : most_command < length (strip_carriage_return raw)
 
 -- the bytes used give no command, and go on as the raw ones of the line that is open
 pub record SameCut (used raw : List ℕ) : Type 0 where

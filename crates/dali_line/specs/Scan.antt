@@ -1,7 +1,7 @@
 use Rattle.std.specs.Prelude.{◌≡◌, ℕ, ◌≤◌, Bool, true, false, IsTrue, List, [], ◌∷◌, length}
 use Rattle.std.specs.Str.Lines.{strip_carriage_return}
+use Rattle.dali_line.specs.Limits.{most_command}
 use Rattle.dali_line.specs.Commands.{is_command, commands}
-use Rattle.dali_line.specs.Line.{MOST_OF_COMMAND}
 use Rattle.dali_line.specs.Open.{Open, StandsFor, Midway, nothing_open}
 use Rattle.dali_line.specs.declared.scan.Turn.{Turn}
 use Rattle.dali_line.specs.declared.scan.Turn.TheVariants.{Part, Newline, End}
@@ -58,4 +58,4 @@ abbrev pub CutsOff : ℕ → List ℕ → LineEnd → Type 0
 CutsOff number raw ReadFault = ⊥
 CutsOff number raw (LongLine k) = (k ≡ number) × FirstIsLong (commands raw)
 CutsOff number raw LongFile = ⊥
-CutsOff number raw OutOfMemory = (line : List ℕ) × (length line ≤ MOST_OF_COMMAND) × (commands raw ≡ line ∷ [])
+CutsOff number raw OutOfMemory = (line : List ℕ) × (length line ≤ most_command) × (commands raw ≡ line ∷ [])

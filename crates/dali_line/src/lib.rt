@@ -8,6 +8,7 @@
 mod block;
 mod command;
 mod fields;
+pub mod limits;
 mod line;
 mod line_end;
 mod lines;

@@ -1,6 +1,7 @@
 ghost use Rattle.std.specs.Prelude.{◌≡◌, ◌≢◌, ◌+◌, ◌≤◌, [], Ok, Err, Some, None, true, false, IfOk, IfErr, IfSome, IfNone, OnErr, IsTrue};
 ghost use Rattle.dali_outside.specs.Outside.{Rose};
-ghost use Rattle.dali_line.specs.Lines.{Gives, Ends, Stops, reached, MOST_OF_FILE};
+ghost use Rattle.dali_line.specs.Limits.{most_file};
+ghost use Rattle.dali_line.specs.Lines.{Gives, Ends, Stops, reached};
 
 use crate::block::Block;
 use crate::line::Line;
@@ -69,7 +70,7 @@ impl Lines {
         ensures failed { result ≡ Err LineEnd.ReadFault → Rose (S.feed source.old).faults (S.feed source.new).faults }
         ensures ended { OnErr result (self.new.over ≡ true) }
         ensures faults { (S.feed source.old).faults ≤ (S.feed source.new).faults }
-        ensures bounded { self.new.given ≤ MOST_OF_FILE }
+        ensures bounded { self.new.given ≤ most_file }
     {
         if self.over {
             return Ok(None);

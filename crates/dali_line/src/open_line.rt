@@ -1,15 +1,14 @@
 ghost use Rattle.std.specs.Prelude.{◌≡◌, ◌↔◌, ◌+◌, ◌≤◌, ◌<◌, ◌==◌, ◌&&◌, List, ℕ, [], ◌++◌, true, false, length, IfOk, OnOk, OnErr, IfSome, IfNone, IsTrue, vec_capacity};
 ghost use Rattle.std.specs.Str.Lines.{strip_carriage_return};
 ghost use Rattle.dali_line.specs.Commands.{is_command};
-ghost use Rattle.dali_line.specs.Line.{MOST_OF_COMMAND, is_line};
+ghost use Rattle.dali_line.specs.Limits.{most_command};
+ghost use Rattle.dali_line.specs.Line.{is_line};
 ghost use Rattle.dali_line.specs.Open.{InOneLine, StandsFor, IsTooLong, nothing_open, is_comment as begins_comment};
 
+use crate::limits::MOST_COMMAND;
 use dali_base::OutOfMemory;
 use std::alloc::Global;
 use std::marker::Model;
-
-/// The most bytes of a command.
-pub(crate) const MOST: usize = 200;
 
 /// The bytes of the line that is being read, up to its LF. Of a comment nothing is kept.
 #[derive(Debug, Drop)]
@@ -38,7 +37,7 @@ impl OpenLine {
         ensures { IfOk result (λ line. line ≡ nothing_open) }
     {
         Ok(OpenLine {
-            kept: Vec::with_capacity(alloc, MOST + 1)?,
+            kept: Vec::with_capacity(alloc, MOST_COMMAND + 1)?,
             skips: false,
         })
     }
@@ -89,7 +88,7 @@ impl OpenLine {
     /// The bytes that the end of input ended here, which may be one too many for a command. `None` where there are none.
     pub(crate) fn last(&self) -> Option<&[u8]>
         ensures some { (raw : List ℕ) → StandsFor raw self.now → IfSome result (λ r. r.now ≡ raw) }
-        ensures command { IfSome result (λ r. length r.now ≤ MOST_OF_COMMAND → IsTrue (is_line r.now)) }
+        ensures command { IfSome result (λ r. length r.now ≤ most_command → IsTrue (is_line r.now)) }
         ensures begins { IfSome result (λ r. is_command r.now ≡ true) }
         ensures none { (raw : List ℕ) → StandsFor raw self.now → IfNone result (is_command raw ≡ false) }
     {
@@ -129,11 +128,11 @@ fn is_comment(part: &[u8]) -> bool
 /// Whether the line of what is kept and these bytes may be a command, where an LF may follow.
 fn is_short(kept: &[u8], part: &[u8]) -> bool
     requires some { 0 < length part.now }
-    requires kept { length kept.now ≤ MOST + 1 }
-    ensures { IsTrue result ↔ (length (strip_carriage_return (kept.now ++ part.now)) ≤ MOST_OF_COMMAND) }
+    requires kept { length kept.now ≤ most_command + 1 }
+    ensures { IsTrue result ↔ (length (strip_carriage_return (kept.now ++ part.now)) ≤ most_command) }
 {
     let len = kept.len() + part.len();
-    len <= MOST || (len == MOST + 1 && part.last() == Some(&b'\r'))
+    len <= MOST_COMMAND || (len == MOST_COMMAND + 1 && part.last() == Some(&b'\r'))
 }
 
 /// Adds these bytes at the end, for which there is room.

@@ -1,6 +1,7 @@
 ghost use Rattle.std.specs.Prelude.{◌≡◌, ◌≢◌, ◌==◌, ◌+◌, ◌*◌, ◌-◌, ◌≤◌, ◌<◌, List, ℕ, [], ◌∷◌, ◌++◌, Err, true, false, length, take, drop, position, IfOk, OnOk, IfErr, IfSome, IfNone, OnErr, IsTrue};
 ghost use Rattle.dali_outside.specs.Outside.{Rose};
-ghost use Rattle.dali_line.specs.Lines.{Reach, reach, Stops, IsLong, MOST_OF_FILE};
+ghost use Rattle.dali_line.specs.Limits.{most_file};
+ghost use Rattle.dali_line.specs.Lines.{Reach, reach, Stops, IsLong};
 ghost use Rattle.dali_line.specs.Open.{InOneLine, StandsFor, IsTooLong, Midway, nothing_open};
 ghost use Rattle.dali_line.specs.Line.{is_line};
 ghost use Rattle.dali_line.specs.Scan.{Finds, Steps, NotAtEnd, IsEnded, EndsWith, CutsOff};
@@ -8,14 +9,12 @@ ghost use Rattle.dali_line.specs.Scan.{Finds, Steps, NotAtEnd, IsEnded, EndsWith
 use crate::block::Block;
 use crate::line::Line;
 use crate::line_end::LineEnd;
-use crate::open_line::{MOST, OpenLine, TooLong};
+use crate::limits::{MOST_COMMAND, MOST_FILE};
+use crate::open_line::{OpenLine, TooLong};
 use crate::split::find;
 use dali_base::OutOfMemory;
 use dali_outside::{Failed, Source};
 use std::alloc::Global;
-
-/// The most bytes of a day file.
-const MOST_BYTES: u64 = 67_108_864;
 
 /// What the bytes up to the end of a line gave.
 pub(crate) enum Found {
@@ -37,13 +36,13 @@ pub(crate) fn read_command<S: Source>(
     number: u64,
 ) -> Result<Found, LineEnd>
     requires line { line.old ≡ nothing_open }
-    requires taken { taken.old ≤ MOST_OF_FILE }
+    requires taken { taken.old ≤ most_file }
     ensures found { IfOk result (Finds S.tells (reach block.old taken.old (S.feed source.old)) (reach block.new taken.new (S.feed source.new))) }
     ensures stops { IfErr result (Stops S.tells number (reach block.old taken.old (S.feed source.old)) (reach block.new taken.new (S.feed source.new))) }
     ensures faults { (S.feed source.old).faults ≤ (S.feed source.new).faults }
     ensures quiet { result ≢ Err LineEnd.ReadFault → (S.feed source.new).faults ≡ (S.feed source.old).faults }
     ensures failed { result ≡ Err LineEnd.ReadFault → Rose (S.feed source.old).faults (S.feed source.new).faults }
-    ensures within { taken.new ≤ MOST_OF_FILE }
+    ensures within { taken.new ≤ most_file }
     ensures counted { taken.old + length block.new ≤ taken.new + length block.old }
 {
     'turns: loop {
@@ -80,15 +79,15 @@ fn step<S: Source>(
     source: &mut S,
     number: u64,
 ) -> Result<Turn, LineEnd>
-    requires taken { taken.old ≤ MOST_OF_FILE }
+    requires taken { taken.old ≤ most_file }
     ensures steps { (old : Reach) → Midway S.tells old line.old (reach block.old taken.old (S.feed source.old)) → IfOk result (Steps S.tells old line.new (reach block.new taken.new (S.feed source.new))) }
     ensures stops { (old : Reach) → Midway S.tells old line.old (reach block.old taken.old (S.feed source.old)) → IfErr result (Stops S.tells number old (reach block.new taken.new (S.feed source.new))) }
     ensures faults { (S.feed source.old).faults ≤ (S.feed source.new).faults }
     ensures quiet { result ≢ Err LineEnd.ReadFault → (S.feed source.new).faults ≡ (S.feed source.old).faults }
     ensures failed { result ≡ Err LineEnd.ReadFault → Rose (S.feed source.old).faults (S.feed source.new).faults }
-    ensures within { taken.new ≤ MOST_OF_FILE }
+    ensures within { taken.new ≤ most_file }
     ensures counted { taken.old + length block.new ≤ taken.new + length block.old }
-    ensures shorter { IfOk result (λ turn. NotAtEnd turn → 2 * (MOST_OF_FILE - taken.new) + length block.new < 2 * (MOST_OF_FILE - taken.old) + length block.old) }
+    ensures shorter { IfOk result (λ turn. NotAtEnd turn → 2 * (most_file - taken.new) + length block.new < 2 * (most_file - taken.old) + length block.old) }
 {
     if block.is_empty() {
         return match refill(block, line, taken, source, number) {
@@ -113,21 +112,21 @@ fn refill<S: Source>(
     number: u64,
 ) -> Result<bool, LineEnd>
     requires block { block.old ≡ [] }
-    requires taken { taken.old ≤ MOST_OF_FILE }
+    requires taken { taken.old ≤ most_file }
     ensures more { (old : Reach) → Midway S.tells old line.old (reach block.old taken.old (S.feed source.old)) → OnOk result (Midway S.tells old line.new (reach block.new taken.new (S.feed source.new))) }
     ensures some { IfOk result (λ more. more ≡ true → 0 < length block.new) }
     ensures counted { taken.new ≡ taken.old + length block.new }
-    ensures within { taken.new ≤ MOST_OF_FILE }
+    ensures within { taken.new ≤ most_file }
     ensures end { IfOk result (λ more. more ≡ false → (block.new ≡ []) × (IsTrue S.tells → (S.feed source.new).left ≡ [])) }
     ensures stops { (old : Reach) → Midway S.tells old line.old (reach block.old taken.old (S.feed source.old)) → IfErr result (Stops S.tells number old (reach block.new taken.new (S.feed source.new))) }
     ensures faults { (S.feed source.old).faults ≤ (S.feed source.new).faults }
     ensures quiet { result ≢ Err LineEnd.ReadFault → (S.feed source.new).faults ≡ (S.feed source.old).faults }
     ensures failed { result ≡ Err LineEnd.ReadFault → Rose (S.feed source.old).faults (S.feed source.new).faults }
 {
-    if *taken == MOST_BYTES {
+    if *taken == MOST_FILE {
         return past_limit(line, source, number);
     }
-    match block.fill(source, (MOST_BYTES - *taken) as usize) {
+    match block.fill(source, (MOST_FILE - *taken) as usize) {
         Ok(n) => {
             *taken += n as u64;
             Ok(n > 0)
@@ -138,9 +137,9 @@ fn refill<S: Source>(
 
 /// Takes one byte past the limit, which may show that the line is long. `Ok` is false: there was none.
 fn past_limit<S: Source>(line: &mut OpenLine, source: &mut S, number: u64) -> Result<bool, LineEnd>
-    ensures more { (old : Reach) → Midway S.tells old line.old (reach [] MOST_OF_FILE (S.feed source.old)) → OnOk result (Midway S.tells old line.new (reach [] MOST_OF_FILE (S.feed source.new))) }
+    ensures more { (old : Reach) → Midway S.tells old line.old (reach [] most_file (S.feed source.old)) → OnOk result (Midway S.tells old line.new (reach [] most_file (S.feed source.new))) }
     ensures end { IfOk result (λ more. (more ≡ false) × (IsTrue S.tells → (S.feed source.new).left ≡ [])) }
-    ensures stops { (old : Reach) → Midway S.tells old line.old (reach [] MOST_OF_FILE (S.feed source.old)) → IfErr result (Stops S.tells number old (reach [] MOST_OF_FILE (S.feed source.new))) }
+    ensures stops { (old : Reach) → Midway S.tells old line.old (reach [] most_file (S.feed source.old)) → IfErr result (Stops S.tells number old (reach [] most_file (S.feed source.new))) }
     ensures faults { (S.feed source.old).faults ≤ (S.feed source.new).faults }
     ensures quiet { result ≢ Err LineEnd.ReadFault → (S.feed source.new).faults ≡ (S.feed source.old).faults }
     ensures failed { result ≡ Err LineEnd.ReadFault → Rose (S.feed source.old).faults (S.feed source.new).faults }
@@ -219,7 +218,7 @@ fn last(alloc: Global, line: &OpenLine, number: u64) -> Result<Found, LineEnd>
     let Some(bytes) = line.last() else {
         return Ok(Found::Nothing);
     };
-    if bytes.len() > MOST {
+    if bytes.len() > MOST_COMMAND {
         return Err(LineEnd::LongLine { command: number });
     }
     match Line::copy(alloc, bytes) {

@@ -4,8 +4,10 @@ use Rattle.std.specs.Result.{IsOk}
 use Rattle.dali_account.specs.declared.refusal.BookNo.{BookNo}
 use Rattle.dali_account.specs.declared.refusal.BookNo.TheVariants as books
 use Rattle.dali_account.specs.Book.{same_name, cash, has_account, has_asset, knows_pair, balance_of, earmark_of, total_of}
-use Rattle.dali_account.specs.Refusals.{MOST, LIMIT, Answers, account_refusal, asset_refusal, issue_refusal, draw_refusal, release_refusal}
-use Rattle.dali_queue.specs.Limits.{MOST_QUEUED, MOST_LINKED}
+use Rattle.dali_base.specs.Limits.{most_quantity, most_total}
+use Rattle.dali_account.specs.Limits.{most_accounts, most_codes}
+use Rattle.dali_account.specs.Refusals.{Answers, account_refusal, asset_refusal, issue_refusal, draw_refusal, release_refusal}
+use Rattle.dali_queue.specs.Limits.{most_queued, most_linked}
 use Rattle.dali_queue.specs.Queue.{is_used, is_queued}
 use Rattle.dali_queue.specs.Groups.{same_group, group_size}
 use Rattle.dali_base.specs.declared.kind.Kind.{Kind}
@@ -14,7 +16,7 @@ use Rattle.dali_line.specs.declared.command.Verb.TheVariants as verbs
 use Rattle.dali_machine.specs.Machine.{Machine}
 use Rattle.dali_machine.specs.declared.outcome.Code.{Code}
 use Rattle.dali_machine.specs.declared.outcome.Code.TheVariants.{There, Full, Name, Total, Short, Cash, SelfDeal, Late, Value, Gone}
-use Rattle.dali_machine.specs.Refusals.{first_of, refusal, place_refusal, unknown_parties, unknown_asset, is_full, is_late, worth, MOST_VALUE}
+use Rattle.dali_machine.specs.Refusals.{first_of, refusal, place_refusal, unknown_parties, unknown_asset, is_full, is_late, worth}
 
 -- where no sentence comes first, none holds
 pub none_first : (b : Bool) (code : Code) (more : List (Bool × Code)) → first_of ((b, code) ∷ more) ≡ None → b ≡ false
@@ -60,19 +62,19 @@ below a b e = grind (arith, nat_tests)
 module _ (m : Machine) (t : ℕ) where
   pub part_allowed : (account : List ℕ) → refusal m t (verbs.Part account) ≡ None → account_refusal m.book account ≡ None
   unfolding refusal
-  part_allowed account e = none_of_two (has_account m.book.accounts account) (nat_le MOST (length m.book.accounts)) There Full books.There books.Full e
+  part_allowed account e = none_of_two (has_account m.book.accounts account) (nat_le most_accounts (length m.book.accounts)) There Full books.There books.Full e
 
   pub part_new : (account : List ℕ) → refusal m t (verbs.Part account) ≡ None → has_account m.book.accounts account ≡ false
   unfolding refusal
-  part_new account e = none_first (has_account m.book.accounts account) There ((nat_le MOST (length m.book.accounts), Full) ∷ []) e
+  part_new account e = none_first (has_account m.book.accounts account) There ((nat_le most_accounts (length m.book.accounts), Full) ∷ []) e
 
   pub inst_allowed : (code : List ℕ) (price : ℕ) → refusal m t (verbs.Inst code price) ≡ None → asset_refusal m.book code ≡ None
   unfolding refusal
-  inst_allowed code price e = none_of_two (has_asset m.book.codes code) (nat_le MOST (length m.book.codes)) There Full books.There books.Full e
+  inst_allowed code price e = none_of_two (has_asset m.book.codes code) (nat_le most_codes (length m.book.codes)) There Full books.There books.Full e
 
   pub issue_allowed : (account asset : List ℕ) (n : ℕ) → refusal m t (verbs.Issue account asset n) ≡ None → issue_refusal m.book account asset n ≡ None
   unfolding refusal
-  issue_allowed account asset n e = none_of_two (not (knows_pair m.book account asset)) (nat_lt LIMIT (total_of m.book asset + n)) Name Total books.Name books.Total e
+  issue_allowed account asset n e = none_of_two (not (knows_pair m.book account asset)) (nat_lt most_total (total_of m.book asset + n)) Name Total books.Name books.Total e
 
   pub draw_allowed : (account asset : List ℕ) (n : ℕ) → refusal m t (verbs.Draw account asset n) ≡ None → draw_refusal m.book account asset n ≡ None
   unfolding refusal
@@ -99,14 +101,14 @@ module _ (m : Machine) (t : ℕ) where
     pub one : is_queued m.queue.waiting first ≡ true
     pub two : is_queued m.queue.waiting second ≡ true
     pub apart : same_group m.queue.waiting first second ≡ false
-    pub fits : group_size m.queue.waiting first + group_size m.queue.waiting second ≤ MOST_LINKED
+    pub fits : group_size m.queue.waiting first + group_size m.queue.waiting second ≤ most_linked
 
   pub linkable : (first second : List ℕ) → refusal m t (verbs.Link first second) ≡ None → IsLinkable first second
   unfolding refusal
   linkable first second e =
       let ws = m.queue.waiting in
       let missing : Bool = not (is_queued ws first) || not (is_queued ws second) in
-      let large : Bool = nat_lt MOST_LINKED (group_size ws first + group_size ws second) in
+      let large : Bool = nat_lt most_linked (group_size ws first + group_size ws second) in
       let queued = none_first missing Gone ((same_name first second, SelfDeal) ∷ (same_group ws first second, There) ∷ (large, Full) ∷ []) e in
       let rest = none_after missing Gone ((same_name first second, SelfDeal) ∷ (same_group ws first second, There) ∷ (large, Full) ∷ []) e in
       let third = none_after (same_name first second) SelfDeal ((same_group ws first second, There) ∷ (large, Full) ∷ []) rest in
@@ -115,7 +117,7 @@ module _ (m : Machine) (t : ℕ) where
         one = is_true (is_queued ws first) (left_false (not (is_queued ws first)) (not (is_queued ws second)) queued);
         two = is_true (is_queued ws second) (right_false (not (is_queued ws first)) (not (is_queued ws second)) queued);
         apart = none_first (same_group ws first second) There ((large, Full) ∷ []) third;
-        fits = not_above MOST_LINKED (group_size ws first + group_size ws second) (none_first large Full [] last);
+        fits = not_above most_linked (group_size ws first + group_size ws second) (none_first large Full [] last);
       }
 
   -- what the verbs that enter an instruction may rely on
@@ -124,7 +126,7 @@ module _ (m : Machine) (t : ℕ) where
     pub giver_known : has_account m.book.accounts giver ≡ true
     pub taker_known : has_account m.book.accounts taker ≡ true
     pub apart : same_name giver taker ≡ false
-    pub few : length m.queue.waiting < MOST_QUEUED
+    pub few : length m.queue.waiting < most_queued
 
   pub record IsDelivery (code : List ℕ) : Type 0 where
     pub known : has_asset m.book.codes code ≡ true
@@ -133,8 +135,8 @@ module _ (m : Machine) (t : ℕ) where
   abbrev places : Kind → List (Bool × Code)
   places kind = (is_late m kind t, Late) ∷ (is_full m, Full) ∷ []
 
-  few_placed : (kind : Kind) → place_refusal m kind t ≡ None → length m.queue.waiting < MOST_QUEUED
-  few_placed kind e = below MOST_QUEUED (length m.queue.waiting) (none_first (is_full m) Full [] (none_after (is_late m kind t) Late ((is_full m, Full) ∷ []) e))
+  few_placed : (kind : Kind) → place_refusal m kind t ≡ None → length m.queue.waiting < most_queued
+  few_placed kind e = below most_queued (length m.queue.waiting) (none_first (is_full m) Full [] (none_after (is_late m kind t) Late ((is_full m, Full) ∷ []) e))
 
   parties_known : (giver taker : List ℕ) → unknown_parties m giver taker ≡ false → (has_account m.book.accounts giver ≡ true) × (has_account m.book.accounts taker ≡ true)
   parties_known giver taker e = (
@@ -145,7 +147,7 @@ module _ (m : Machine) (t : ℕ) where
   module _ (id giver taker code : List ℕ) where
     -- the sentences of a delivery up to its last ones
     delivery : (more : List (Bool × Code)) → first_of ((is_used m.queue id, There) ∷ (unknown_parties m giver taker || unknown_asset m code, Name) ∷ (same_name code cash, Cash) ∷ (same_name giver taker, SelfDeal) ∷ more) ≡ None →
-        (first_of more ≡ None) × IsDelivery code × ((length m.queue.waiting < MOST_QUEUED) → IsEntry id giver taker)
+        (first_of more ≡ None) × IsDelivery code × ((length m.queue.waiting < most_queued) → IsEntry id giver taker)
     delivery more e =
         let unknown : Bool = unknown_parties m giver taker || unknown_asset m code in
         let two = none_after (is_used m.queue id) There ((unknown, Name) ∷ (same_name code cash, Cash) ∷ (same_name giver taker, SelfDeal) ∷ more) e in
@@ -175,13 +177,13 @@ module _ (m : Machine) (t : ℕ) where
         let parts = delivery (places kinds.Dvp) e in
         (parts.1, parts.2 (few_placed kinds.Dvp parts.0))
 
-    pub fop_entry : (quantity : ℕ) → refusal m t (verbs.Fop id giver taker code quantity) ≡ None → IsDelivery code × IsEntry id giver taker × (worth m code quantity ≤ MOST_VALUE)
+    pub fop_entry : (quantity : ℕ) → refusal m t (verbs.Fop id giver taker code quantity) ≡ None → IsDelivery code × IsEntry id giver taker × (worth m code quantity ≤ most_quantity)
     unfolding refusal
     fop_entry quantity e =
-        let large : Bool = nat_lt MOST_VALUE (worth m code quantity) in
+        let large : Bool = nat_lt most_quantity (worth m code quantity) in
         let parts = delivery ((large, Value) ∷ places kinds.Fop) e in
         let more = none_after large Value (places kinds.Fop) parts.0 in
-        (parts.1, parts.2 (few_placed kinds.Fop more), not_above MOST_VALUE (worth m code quantity) (none_first large Value (places kinds.Fop) parts.0))
+        (parts.1, parts.2 (few_placed kinds.Fop more), not_above most_quantity (worth m code quantity) (none_first large Value (places kinds.Fop) parts.0))
 
   pub pay_entry : (id giver taker : List ℕ) (amount : ℕ) → refusal m t (verbs.Pay id giver taker amount) ≡ None → IsEntry id giver taker
   unfolding refusal

@@ -5,7 +5,7 @@ use Rattle.std.proofs.lemmas.Int.{ints}
 use Rattle.std.proofs.lemmas.List.Elements.{All-tail}
 use Rattle.dali_account.specs.declared.net.Move.{Move}
 use Rattle.dali_account.specs.Book.{BookRecord, same_name, has_account, has_asset, total_of}
-use Rattle.dali_account.specs.Refusals.{LIMIT}
+use Rattle.dali_base.specs.Limits.{most_total}
 use Rattle.dali_account.specs.Net.{pair_of, after_move, with_move, with_net}
 use Rattle.dali_account.specs.Units.{PairKey, Units, units_of, with_units}
 use Rattle.dali_account.proofs.KeptLemmas.{other_name}
@@ -73,7 +73,7 @@ pub record IsBooked (m : Machine) (book : BookRecord) (net : List Move) : Type 0
   pub moved : (pair : PairKey) → pos (units_of book.balances pair) ≡ pos (units_of m.book.balances pair) +ℤ delta_of net pair
   pub accounts : book.accounts ≡ m.book.accounts
   pub codes : book.codes ≡ m.book.codes
-  pub limit : (asset : List ℕ) → total_of book asset ≤ LIMIT
+  pub limit : (asset : List ℕ) → total_of book asset ≤ most_total
   pub outside : (pair : PairKey) → has_account m.book.accounts pair.0 ≡ false → delta_of net pair ≡ pos 0
   pub earmarks : (pair : PairKey) → has_account m.book.accounts pair.0 ≡ false → units_of book.earmarks pair ≡ units_of m.book.earmarks pair
 
@@ -88,10 +88,10 @@ module _ (m : Machine) (kept : IsMachine m) (command : ℕ) (book : BookRecord) 
       let before = kept.owned pair absent in
       omega (arith, ints, moved, none, before)
 
-  within : (pair : PairKey) → units_of book.balances pair ≤ LIMIT
+  within : (pair : PairKey) → units_of book.balances pair ≤ most_total
   within pair = by (has_account m.book.accounts pair.0) refl
     where
-      by : (b : Bool) → has_account m.book.accounts pair.0 ≡ b → units_of book.balances pair ≤ LIMIT
+      by : (b : Bool) → has_account m.book.accounts pair.0 ≡ b → units_of book.balances pair ≤ most_total
       by false told = omega (arith, owned pair told)
       by true told =
           let part = term_le_sum (λ a. units_of book.balances (a, pair.1) + units_of book.earmarks (a, pair.1)) pair.0 book.accounts (ap (λ xs. has_account xs pair.0) done.accounts ∙ told) in
@@ -129,7 +129,7 @@ module _ (m : Machine) (kept : IsMachine m) (command : ℕ) (book : BookRecord) 
 module _ (m : Machine) (account asset : List ℕ) (n earmark : ℕ) (z : ℤ) (there : has_account m.book.accounts account ≡ true)
     (is : pos n ≡ pos (units_of m.book.balances (account, asset)) +ℤ z) (book : BookRecord)
     (put : book ≡ record m.book { balances = with_units m.book.balances (account, asset) n; earmarks = with_units m.book.earmarks (account, asset) earmark })
-    (limit : (q : List ℕ) → total_of book q ≤ LIMIT) where
+    (limit : (q : List ℕ) → total_of book q ≤ most_total) where
   one_delta : (pair : PairKey) → delta_of (one_move account asset z) pair ≡ at_pair account asset z pair
   one_delta pair = omega (arith, ints)
 

@@ -149,7 +149,7 @@ unfolding step
 step_outcome m edition line choice = outcome_counted m (judged edition m line) (cycling (accepted_cycle (judged edition m line)) choice)
 
 -- where a choice is there exactly for a cycle, the answer tells it
-cycle_told : (m : Machine) (j : Judged) (choice : Option Choice) → cycle_in (turn m j (cycling (accepted_cycle j) choice)).outcome ≡ cycling (accepted_cycle j) choice
+pub cycle_told : (m : Machine) (j : Judged) (choice : Option Choice) → cycle_in (turn m j (cycling (accepted_cycle j) choice)).outcome ≡ cycling (accepted_cycle j) choice
 unfolding report_of
 cycle_told m judgements.Form choice = refl
 cycle_told m judgements.Back choice = refl

@@ -6,7 +6,7 @@ use Rattle.std.specs.Cmp.Lexicographic.{nat_list_eq_equiv}
 use Rattle.std.specs.List.{All, IsDistinct}
 use Rattle.std.specs.Option.{option_map_or}
 use Rattle.dali_account.specs.Book.{BookRecord, same_name, cash, has_account, has_asset, price_of, total_of}
-use Rattle.dali_account.specs.Refusals.{LIMIT}
+use Rattle.dali_base.specs.Limits.{most_total}
 use Rattle.dali_account.specs.Units.{units_of}
 use Rattle.dali_queue.specs.declared.instruction.Instruction.{Instruction}
 use Rattle.dali_queue.specs.Groups.{in_group, group_of, with_group, regrouped, linked}
@@ -48,7 +48,7 @@ module _ (m : Machine) (kept : IsMachine m) where
     earmarked = λ pair absent. ap (λ (b : BookRecord). units_of b.earmarks pair) is
         ∙ kept.earmarked pair (fewer_unknown m.book.accounts account pair.0 (ap (λ (b : BookRecord). has_account b.accounts pair.0) (sym is) ∙ absent));
     distinct = subst (λ (b : BookRecord). IsDistinct same_name b.accounts) (sym is) (IsDistinct-push nat_list_eq_equiv m.book.accounts account kept.distinct new);
-    limit = λ asset. subst (λ n. n ≤ LIMIT) (sym (totals asset)) (kept.limit asset);
+    limit = λ asset. subst (λ n. n ≤ most_total) (sym (totals asset)) (kept.limit asset);
     prices = subst (λ (b : BookRecord). All (λ c. 1 ≤ c.1) b.codes) (sym is) kept.prices;
     known = subst (λ (b : BookRecord). All (λ w. AreKnown b w.item) m.queue.waiting) (sym is) (λ k d h.
         let old = kept.known k d h in
@@ -62,7 +62,7 @@ module _ (m : Machine) (kept : IsMachine m) where
     owned = λ pair absent. ap (λ (b : BookRecord). units_of b.balances pair) is ∙ kept.owned pair (ap (λ (b : BookRecord). has_account b.accounts pair.0) (sym is) ∙ absent);
     earmarked = λ pair absent. ap (λ (b : BookRecord). units_of b.earmarks pair) is ∙ kept.earmarked pair (ap (λ (b : BookRecord). has_account b.accounts pair.0) (sym is) ∙ absent);
     distinct = subst (λ (b : BookRecord). IsDistinct same_name b.accounts) (sym is) kept.distinct;
-    limit = λ asset. subst (λ n. n ≤ LIMIT) (sym (totals asset)) (kept.limit asset);
+    limit = λ asset. subst (λ n. n ≤ most_total) (sym (totals asset)) (kept.limit asset);
     prices = subst (λ (b : BookRecord). All (λ c. 1 ≤ c.1) b.codes) (sym is) (All-push (λ c. 1 ≤ c.1) m.book.codes (code, price) kept.prices some);
     known = subst (λ (b : BookRecord). All (λ w. AreKnown b w.item) m.queue.waiting) (sym is) (λ k d h.
         let old = kept.known k d h in

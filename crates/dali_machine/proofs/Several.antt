@@ -6,7 +6,7 @@ use Rattle.std.proofs.lemmas.List.Sums.{sum_by-cons}
 use Rattle.std.proofs.lemmas.Map.Keys.{IsDistinct-head, IsDistinct-tail}
 use Rattle.dali_account.specs.declared.net.Move.{Move}
 use Rattle.dali_account.specs.Book.{BookRecord, same_name, cash, has_account, has_asset, knows_pair, total_of}
-use Rattle.dali_account.specs.Refusals.{LIMIT}
+use Rattle.dali_base.specs.Limits.{most_total}
 use Rattle.dali_account.specs.Net.{pair_of, with_net}
 use Rattle.dali_account.specs.Units.{PairKey, Units, units_of}
 use Rattle.dali_account.proofs.PostLemmas.{ready_start}
@@ -149,7 +149,7 @@ module _ (m : Machine) (kept : IsMachine m) (items : List Instruction) (known : 
     moved = moves;
     accounts = refl;
     codes = refl;
-    limit = λ q. subst (λ n. n ≤ LIMIT) (sym (total_same q)) (kept.limit q);
+    limit = λ q. subst (λ n. n ≤ most_total) (sym (total_same q)) (kept.limit q);
     outside = outside m.book.accounts (net_of items) known_accounts;
     earmarks = λ pair absent. refl;
   }

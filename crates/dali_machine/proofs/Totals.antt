@@ -2,7 +2,7 @@ use Rattle.std.proofs.Common.{◌≡◌, ℕ, ◌+◌, ◌-◌, pos, neg_ℤ, �
 use Rattle.std.proofs.lemmas.Int.{ints}
 use Rattle.std.proofs.lemmas.List.Sums.{sum_by_push}
 use Rattle.dali_account.specs.Book.{same_name, has_account, knows_pair, balance_of, earmark_of, total_of, with_pair}
-use Rattle.dali_account.specs.Refusals.{LIMIT}
+use Rattle.dali_base.specs.Limits.{most_total}
 use Rattle.dali_account.specs.Units.{units_of}
 use Rattle.dali_account.proofs.SumLemmas.{same_name_is, same_name_symm, first_true, held_other, held_moved}
 use Rattle.dali_problem.specs.Sums.{pick}
@@ -67,7 +67,7 @@ module _ (m : Machine) (kept : IsMachine m) where
         pos (total_of (accepted m (verbs.Issue account asset n)).book q) ≡ pos (total_of m.book q) +ℤ pick (same_name asset q) (pos n)
     unfolding refusal accepted
     issue_totals account asset n allowed q =
-        let there = known_account account asset (none_first (not (knows_pair m.book account asset)) Name ((nat_lt LIMIT (total_of m.book asset + n), Total) ∷ []) allowed) in
+        let there = known_account account asset (none_first (not (knows_pair m.book account asset)) Name ((nat_lt most_total (total_of m.book asset + n), Total) ∷ []) allowed) in
         put account asset (balance_of m.book account asset + n) (earmark_of m.book account asset) n 0 there (omega arith) q
         ∙ ap (λ z. pos (total_of m.book q) +ℤ pick (same_name asset q) z) (omega (arith, ints))
 

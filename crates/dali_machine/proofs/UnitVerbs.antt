@@ -2,7 +2,7 @@ use Rattle.std.proofs.Common.{◌≡◌, ◌≢◌, ℕ, ◌+◌, ◌-◌, ◌�
 use Rattle.std.proofs.lemmas.Int.{ints}
 use Rattle.dali_account.specs.declared.net.Move.{Move}
 use Rattle.dali_account.specs.Book.{BookRecord, same_name, has_account, has_asset, knows_pair, balance_of, earmark_of, total_of, issued, drawn, after_earmark, after_release}
-use Rattle.dali_account.specs.Refusals.{LIMIT}
+use Rattle.dali_base.specs.Limits.{most_total}
 use Rattle.dali_account.proofs.SumLemmas.{same_name_is, same_name_refl, first_true}
 use Rattle.dali_line.specs.declared.command.Verb.{Verb}
 use Rattle.dali_line.specs.declared.command.Verb.TheVariants as verbs
@@ -70,15 +70,15 @@ module _ (m : Machine) (t : ℕ) (account asset : List ℕ) (n : ℕ) where
   unfolding refusal
   issue_booked book kept allowed is own others =
       let unknown : Bool = not (knows_pair m.book account asset) in
-      let large : Bool = nat_lt LIMIT (total_of m.book asset + n) in
-      let most = not_above LIMIT (total_of m.book asset + n) (none_first large Total [] (none_after unknown Name ((large, Total) ∷ []) allowed)) in
+      let large : Bool = nat_lt most_total (total_of m.book asset + n) in
+      let most = not_above most_total (total_of m.book asset + n) (none_first large Total [] (none_after unknown Name ((large, Total) ∷ []) allowed)) in
       booked_one m account asset (balance_of m.book account asset + n) (earmark_of m.book account asset) (pos n)
       (account_known (is_true (knows_pair m.book account asset) (none_first unknown Name ((large, Total) ∷ []) allowed))) (omega (arith, ints)) book is
       (λ q. by q most (same_name q asset) refl)
     where
-      by : (q : List ℕ) → total_of m.book asset + n ≤ LIMIT → (b : Bool) → same_name q asset ≡ b → total_of book q ≤ LIMIT
-      by q most true told = subst (λ r. total_of book r ≤ LIMIT) (sym (same_name_is q asset told)) (subst (λ k. k ≤ LIMIT) (sym own) most)
-      by q most false told = subst (λ k. k ≤ LIMIT) (sym (others q (other_asset q told))) (kept.limit q)
+      by : (q : List ℕ) → total_of m.book asset + n ≤ most_total → (b : Bool) → same_name q asset ≡ b → total_of book q ≤ most_total
+      by q most true told = subst (λ r. total_of book r ≤ most_total) (sym (same_name_is q asset told)) (subst (λ k. k ≤ most_total) (sym own) most)
+      by q most false told = subst (λ k. k ≤ most_total) (sym (others q (other_asset q told))) (kept.limit q)
 
   pub draw_booked : (book : BookRecord) → IsMachine m → refusal m t (verbs.Draw account asset n) ≡ None → book ≡ drawn m.book account asset n →
       total_of book asset + n ≡ total_of m.book asset → ((q : List ℕ) → q ≢ asset → total_of book q ≡ total_of m.book q) → IsBooked m book (one_move account asset (neg_ℤ (pos n)))
@@ -91,11 +91,11 @@ module _ (m : Machine) (t : ℕ) (account asset : List ℕ) (n : ℕ) where
       (account_known (is_true (knows_pair m.book account asset) (none_first unknown Name ((few, Short) ∷ []) allowed))) (omega (arith, ints, enough)) book is
       (λ q. by q (same_name q asset) refl)
     where
-      by : (q : List ℕ) → (b : Bool) → same_name q asset ≡ b → total_of book q ≤ LIMIT
+      by : (q : List ℕ) → (b : Bool) → same_name q asset ≡ b → total_of book q ≤ most_total
       by q true told =
           let before = kept.limit asset in
-          subst (λ r. total_of book r ≤ LIMIT) (sym (same_name_is q asset told)) (omega (arith, own, before))
-      by q false told = subst (λ k. k ≤ LIMIT) (sym (others q (other_asset q told))) (kept.limit q)
+          subst (λ r. total_of book r ≤ most_total) (sym (same_name_is q asset told)) (omega (arith, own, before))
+      by q false told = subst (λ k. k ≤ most_total) (sym (others q (other_asset q told))) (kept.limit q)
 
   pub earmark_booked : (book : BookRecord) → IsMachine m → refusal m t (verbs.Earmark account asset n) ≡ None → book ≡ after_earmark m.book account asset n →
       ((q : List ℕ) → total_of book q ≡ total_of m.book q) → IsBooked m book (one_move account asset (neg_ℤ (pos n)))
@@ -106,7 +106,7 @@ module _ (m : Machine) (t : ℕ) (account asset : List ℕ) (n : ℕ) where
       let enough = not_above (balance_of m.book account asset) n (none_first few Short [] (none_after unknown Name ((few, Short) ∷ []) allowed)) in
       booked_one m account asset (balance_of m.book account asset - n) (earmark_of m.book account asset + n) (neg_ℤ (pos n))
       (account_known (is_true (knows_pair m.book account asset) (none_first unknown Name ((few, Short) ∷ []) allowed))) (omega (arith, ints, enough)) book is
-      (λ q. subst (λ k. k ≤ LIMIT) (sym (totals q)) (kept.limit q))
+      (λ q. subst (λ k. k ≤ most_total) (sym (totals q)) (kept.limit q))
 
   pub release_booked : (book : BookRecord) → IsMachine m → refusal m t (verbs.Release account asset n) ≡ None → book ≡ after_release m.book account asset n →
       ((q : List ℕ) → total_of book q ≡ total_of m.book q) → IsBooked m book (one_move account asset (pos n))
@@ -116,4 +116,4 @@ module _ (m : Machine) (t : ℕ) (account asset : List ℕ) (n : ℕ) where
       let few : Bool = nat_lt (earmark_of m.book account asset) n in
       booked_one m account asset (balance_of m.book account asset + n) (earmark_of m.book account asset - n) (pos n)
       (account_known (is_true (knows_pair m.book account asset) (none_first unknown Name ((few, Short) ∷ []) allowed))) (omega (arith, ints)) book is
-      (λ q. subst (λ k. k ≤ LIMIT) (sym (totals q)) (kept.limit q))
+      (λ q. subst (λ k. k ≤ most_total) (sym (totals q)) (kept.limit q))

@@ -1,4 +1,5 @@
 use Rattle.std.specs.Prelude.{◌≡◌, ℕ, ◌+◌, ◌<◌, ◌≤◌, ◌^◌, ◌==◌, List, length, map, Option, Some, None, if◌then◌else◌}
+use Rattle.dali_base.specs.Limits.{most_budget}
 use Rattle.dali_account.specs.declared.net.Move.{Move}
 use Rattle.dali_account.specs.Net.{with_net}
 use Rattle.dali_check.specs.Allowed.{Allowed}
@@ -113,5 +114,5 @@ pub record IsTrueMark (p : Clearing) (report : CycleReport) : Type 0 where
 -- what every report is: its choice fits its problem and is allowed for it and the budget, and its mark is true
 pub record IsTrueReport (report : CycleReport) : Type 0 where
   pub chosen : IsChoiceFor report.problem report.budget report.choice
-  pub budget : report.budget ≤ 4096
+  pub budget : report.budget ≤ most_budget
   pub mark : IsTrueMark report.problem report

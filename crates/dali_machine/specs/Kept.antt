@@ -1,7 +1,7 @@
 use Rattle.std.specs.Prelude.{◌≡◌, ℕ, ◌≤◌, pos, List, true, false}
 use Rattle.std.specs.List.{All, IsDistinct}
 use Rattle.dali_account.specs.Book.{BookRecord, same_name, has_account, has_asset, total_of}
-use Rattle.dali_account.specs.Refusals.{LIMIT}
+use Rattle.dali_base.specs.Limits.{most_total}
 use Rattle.dali_account.specs.Units.{PairKey, units_of}
 use Rattle.dali_ledger.specs.Postings.{delta_sum}
 use Rattle.dali_queue.specs.declared.instruction.Instruction.{Instruction}
@@ -20,6 +20,6 @@ pub record IsMachine (m : Machine) : Type 0 where
   pub owned : (pair : PairKey) → has_account m.book.accounts pair.0 ≡ false → units_of m.book.balances pair ≡ 0
   pub earmarked : (pair : PairKey) → has_account m.book.accounts pair.0 ≡ false → units_of m.book.earmarks pair ≡ 0
   pub distinct : IsDistinct same_name m.book.accounts
-  pub limit : (asset : List ℕ) → total_of m.book asset ≤ LIMIT
+  pub limit : (asset : List ℕ) → total_of m.book asset ≤ most_total
   pub prices : All (λ c. 1 ≤ c.1) m.book.codes
   pub known : All (λ w. AreKnown m.book w.item) m.queue.waiting

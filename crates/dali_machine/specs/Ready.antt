@@ -8,7 +8,7 @@ use Rattle.dali_line.specs.declared.command.Verb.TheVariants.{Part, Inst, Dvp, F
 use Rattle.dali_line.specs.Grammar.{HasFields}
 use Rattle.dali_queue.specs.declared.instruction.Instruction.{Instruction}
 use Rattle.dali_queue.specs.Instruction.{IsInstruction}
-use Rattle.dali_queue.specs.Limits.{MOST_QUEUED}
+use Rattle.dali_queue.specs.Limits.{most_queued}
 use Rattle.dali_queue.specs.NetOf.{items_at, net_of}
 use Rattle.dali_queue.specs.Queue.{is_used}
 use Rattle.dali_tree.specs.declared.choice.Choice.{Choice}
@@ -131,7 +131,7 @@ pub record IsSet (s : StateRecord) (places : List ℕ) (net : List Move) : Type 
 -- the instruction may be entered
 pub record MayEnter (s : StateRecord) (i : Instruction) : Type 0 where
   pub new : is_used s.machine.queue i.id ≡ false
-  pub few : length s.machine.queue.waiting < MOST_QUEUED
+  pub few : length s.machine.queue.waiting < most_queued
   pub item : IsInstruction i
   pub rank : i.rank ≡ 1
   pub known : AreKnown s.machine.book i

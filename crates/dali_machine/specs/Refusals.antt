@@ -4,14 +4,15 @@ use Rattle.std.specs.Option.{option_map_or}
 use Rattle.dali_base.specs.declared.kind.Kind.{Kind}
 use Rattle.dali_base.specs.declared.kind.Kind.TheVariants as kinds
 use Rattle.dali_account.specs.Book.{BookRecord, same_name, cash, has_account, has_asset, price_of, knows_pair, balance_of, earmark_of, total_of}
-use Rattle.dali_account.specs.Refusals.{MOST, LIMIT}
+use Rattle.dali_base.specs.Limits.{most_quantity, most_total}
+use Rattle.dali_account.specs.Limits.{most_accounts, most_codes}
 use Rattle.dali_account.specs.Units.{PairKey, units_of}
 use Rattle.dali_problem.specs.Rules.{is_negative}
 use Rattle.dali_queue.specs.declared.instruction.Instruction.{Instruction}
 use Rattle.dali_queue.specs.Cutoffs.{cutoff_of}
 use Rattle.dali_queue.specs.Groups.{same_group, group_size}
 use Rattle.dali_queue.specs.Instruction.{effect, changed_pairs}
-use Rattle.dali_queue.specs.Limits.{MOST_QUEUED, MOST_LINKED}
+use Rattle.dali_queue.specs.Limits.{most_queued, most_linked}
 use Rattle.dali_queue.specs.Queue.{is_used, is_queued, item_of}
 use Rattle.dali_line.specs.declared.command.Verb.{Verb}
 use Rattle.dali_line.specs.declared.command.Verb.TheVariants.{Part, Inst, Issue, Draw, Dvp, Fop, Pay, Cancel, Settle, Cutoff, Cycle, Queue, Close, Stat, Ledger, Earmark, Release, Link, Rank}
@@ -43,15 +44,11 @@ is_late m kind moment = nat_lt (cutoff_of m.queue.cutoffs kind) moment
 
 -- there are 1,024 queued instructions
 abbrev pub is_full : Machine → Bool
-is_full m = nat_le MOST_QUEUED (length m.queue.waiting)
+is_full m = nat_le most_queued (length m.queue.waiting)
 
 -- what a quantity of a code is worth
 abbrev pub worth : Machine → List ℕ → ℕ → ℕ
 worth m code quantity = quantity * unwrap_or (price_of m.book.codes code) 0
-
--- the greatest value of an instruction
-abbrev pub MOST_VALUE : ℕ
-MOST_VALUE = 1000000000000000
 
 -- the instruction alone would leave the pair's balance negative
 abbrev pub lacks : BookRecord → Instruction → PairKey → Bool
@@ -90,11 +87,11 @@ is_entry _ = false
 -- a verb's sentences at a moment, in their order: each says whether it holds, and its code
 abbrev pub sentences : Machine → ℕ → Verb → List (Bool × Code)
 sentences m t (Part account) =
-    (has_account m.book.accounts account, There) ∷ (nat_le MOST (length m.book.accounts), Full) ∷ []
+    (has_account m.book.accounts account, There) ∷ (nat_le most_accounts (length m.book.accounts), Full) ∷ []
 sentences m t (Inst code price) =
-    (has_asset m.book.codes code, There) ∷ (nat_le MOST (length m.book.codes), Full) ∷ []
+    (has_asset m.book.codes code, There) ∷ (nat_le most_codes (length m.book.codes), Full) ∷ []
 sentences m t (Issue account asset n) =
-    (unknown_pair m account asset, Name) ∷ (nat_lt LIMIT (total_of m.book asset + n), Total) ∷ []
+    (unknown_pair m account asset, Name) ∷ (nat_lt most_total (total_of m.book asset + n), Total) ∷ []
 sentences m t (Draw account asset n) =
     (unknown_pair m account asset, Name) ∷ (nat_lt (balance_of m.book account asset) n, Short) ∷ []
 sentences m t (Dvp id seller buyer code quantity amount) =
@@ -102,7 +99,7 @@ sentences m t (Dvp id seller buyer code quantity amount) =
     ∷ (same_name seller buyer, SelfDeal) ∷ (is_late m kinds.Dvp t, Late) ∷ (is_full m, Full) ∷ []
 sentences m t (Fop id from to code quantity) =
     (is_used m.queue id, There) ∷ (unknown_parties m from to || unknown_asset m code, Name) ∷ (same_name code cash, Cash)
-    ∷ (same_name from to, SelfDeal) ∷ (nat_lt MOST_VALUE (worth m code quantity), Value) ∷ (is_late m kinds.Fop t, Late) ∷ (is_full m, Full) ∷ []
+    ∷ (same_name from to, SelfDeal) ∷ (nat_lt most_quantity (worth m code quantity), Value) ∷ (is_late m kinds.Fop t, Late) ∷ (is_full m, Full) ∷ []
 sentences m t (Pay id from to amount) =
     (is_used m.queue id, There) ∷ (unknown_parties m from to, Name) ∷ (same_name from to, SelfDeal)
     ∷ (is_late m kinds.Pay t, Late) ∷ (is_full m, Full) ∷ []
@@ -123,7 +120,7 @@ sentences m t (Release account asset n) =
 sentences m t (Link first second) =
     (not_queued m first || not_queued m second, Gone) ∷ (same_name first second, SelfDeal)
     ∷ (same_group m.queue.waiting first second, There)
-    ∷ (nat_lt MOST_LINKED (group_size m.queue.waiting first + group_size m.queue.waiting second), Full) ∷ []
+    ∷ (nat_lt most_linked (group_size m.queue.waiting first + group_size m.queue.waiting second), Full) ∷ []
 sentences m t (Rank id rank) = (not_queued m id, Gone) ∷ []
 
 -- why a verb is refused at a moment: the first of its sentences that holds

@@ -1,6 +1,7 @@
-ghost use Rattle.std.specs.Prelude.{◌≡◌, ℕ, ◌*◌, ◌^◌, ◌<◌, ℤ, pos, ◌+ℤ◌, ◌-ℤ◌, ◌&&◌, ◌||◌, not, length};
+ghost use Rattle.std.specs.Prelude.{◌≡◌, ℕ, ◌^◌, ◌<◌, ℤ, pos, ◌+ℤ◌, ◌-ℤ◌, ◌&&◌, ◌||◌, not, length};
 ghost use Rattle.std.specs.List.{All, AllPairs, list_all};
 ghost use Rattle.std.specs.Int.{int_max, int_min};
+ghost use Rattle.dali_base.specs.Limits.{most_effect};
 ghost use Rattle.dali_problem.specs.Sums.{pick, sum_over};
 ghost use Rattle.dali_problem.specs.Clearing.{on_line};
 ghost use Rattle.dali_problem.specs.Limits.{Within};
@@ -208,7 +209,7 @@ pub(crate) fn all_quiet(sums: &[LineSum], effects: &[Effect]) -> bool
 /// What effects on rising lines change this line by.
 pub(crate) fn amount_on(effects: &[Effect], line: u32) -> i64
     requires rising { AllPairs (λ a b. a.line < b.line) effects.now }
-    requires bounded { All (λ e. Within (8 * 10 ^ 15) e.amount) effects.now }
+    requires bounded { All (λ e. Within most_effect e.amount) effects.now }
     ensures { result ≡ sum_over (on_line line) effects.now }
 {
     for effect in effects {

@@ -1,5 +1,6 @@
-ghost use Rattle.std.specs.Prelude.{◌≡◌, ℕ, ◌*◌, ◌^◌, ◌<◌, pos, length, replicate, slice_set};
+ghost use Rattle.std.specs.Prelude.{◌≡◌, ℕ, ◌^◌, ◌<◌, pos, length, replicate, slice_set};
 ghost use Rattle.std.specs.List.{All};
+ghost use Rattle.dali_base.specs.Limits.{most_effect};
 ghost use Rattle.dali_problem.specs.Sums.{sum_over};
 ghost use Rattle.dali_problem.specs.Clearing.{balance, on_line};
 ghost use Rattle.dali_problem.specs.Limits.{Within, AreEffects, IsProblem};
@@ -13,7 +14,7 @@ use crate::row::Effect;
 /// A line's sums after the effect of a place goes from one mark to another.
 fn move_one(sum: &mut LineSum, effect: &Effect, from: Mark, to: Mark)
     requires small { IsSmall (2 ^ 100) sum.old }
-    requires amount { Within (8 * 10 ^ 15) effect.now.amount }
+    requires amount { Within most_effect effect.now.amount }
     ensures { sum.new ≡ moved sum.old from to effect.now.amount }
 {
     take_out(sum, effect, from);

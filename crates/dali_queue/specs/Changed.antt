@@ -5,7 +5,7 @@ use Rattle.dali_base.specs.Limits.{most_quantity}
 use Rattle.dali_account.specs.declared.net.Move.{Move}
 use Rattle.dali_account.specs.Units.{PairKey, pair_cmp}
 use Rattle.dali_problem.specs.Limits.{Within}
-use Rattle.dali_queue.specs.Limits.{MOST_QUEUED}
+use Rattle.dali_queue.specs.Limits.{most_queued}
 
 -- the change of a pair so far
 abbrev pub change_of : BTreeMap PairKey ℤ → PairKey → ℤ
@@ -13,7 +13,7 @@ change_of m pair = unwrap_or (get pair_cmp m pair) (pos 0)
 
 -- how great the changes of a full queue may be: each instruction may move its quantity and its cash
 abbrev pub ROOM : ℕ
-ROOM = MOST_QUEUED * (2 * most_quantity)
+ROOM = most_queued * (2 * most_quantity)
 
 -- less than half of what an i64 holds
 abbrev pub HALF : ℕ

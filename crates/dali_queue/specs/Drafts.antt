@@ -1,5 +1,6 @@
-use Rattle.std.specs.Prelude.{◌≢◌, ℕ, ◌*◌, ◌^◌, ◌≤◌, ◌&&◌, Bool, List, map, length, sum_by}
+use Rattle.std.specs.Prelude.{◌≢◌, ℕ, ◌≤◌, ◌&&◌, Bool, List, map, length, sum_by}
 use Rattle.std.specs.List.{All, AllPairs}
+use Rattle.dali_base.specs.Limits.{most_items, most_worths}
 use Rattle.dali_account.specs.Book.{BookRecord, same_name}
 use Rattle.dali_account.specs.Units.{PairKey}
 use Rattle.dali_problem.specs.Clearing.{Item, Clearing}
@@ -36,7 +37,7 @@ drafted book drafts = record {
 
 -- items that fit a problem of n lines
 pub record AreItems (n : ℕ) (items : List Item) : Type 0 where
-  pub few : length items ≤ 1024
+  pub few : length items ≤ most_items
   pub ids : AllPairs (λ a b. a.id ≢ b.id) items
   pub each : All (IsItem n) items
-  pub total : sum_by (λ item. item.value) items ≤ 16384 * 10 ^ 15
+  pub total : sum_by (λ item. item.value) items ≤ most_worths

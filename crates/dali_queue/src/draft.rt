@@ -2,6 +2,7 @@ ghost use Rattle.std.specs.Prelude.{◌≡◌, ◌≤◌, ◌||◌, ◌++◌, �
 ghost use Rattle.std.specs.List.{list_any};
 ghost use Rattle.std.specs.List.Sorted.{IsStrictlySortedBy};
 ghost use Rattle.indexmap.specs.IndexSet.{contains};
+ghost use Rattle.dali_base.specs.Limits.{most_lines};
 ghost use Rattle.dali_account.specs.Net.{pair_of};
 ghost use Rattle.dali_account.specs.Units.{PairKey, pair_cmp};
 ghost use Rattle.dali_problem.specs.Clearing.{Item};
@@ -26,7 +27,7 @@ pub struct Draft {
 
 /// The problem of these groups over the balances of the book.
 pub fn draft_problem(alloc: Global, book: &Book, drafts: &[Draft]) -> Result<Problem, OutOfMemory>
-    requires lines { length (drafted_pairs drafts.now) ≤ 4096 }
+    requires lines { length (drafted_pairs drafts.now) ≤ most_lines }
     requires items { AreItems (length (drafted_pairs drafts.now)) (map (item_of_draft (drafted_pairs drafts.now)) drafts.now) }
     ensures { IfOk result (λ problem. problem ≡ drafted book.now.book drafts.now) }
 {
@@ -62,7 +63,7 @@ fn add_pairs(pairs: &mut IndexSet<(Name, Name)>, moves: &[Move]) -> Result<(), O
 /// Adds a line for each of these pairs, with its balance.
 fn add_lines(problem: &mut Problem, book: &Book, pairs: &[(Name, Name)]) -> Result<(), OutOfMemory>
     requires empty { problem.old ≡ record { lines = []; items = [] } }
-    requires few { length pairs.now ≤ 4096 }
+    requires few { length pairs.now ≤ most_lines }
     requires rising { IsStrictlySortedBy pair_cmp pairs.now }
     ensures { OnOk result (problem.new ≡ record { lines = map (line_row book.now.book) pairs.now; items = [] }) }
 {
@@ -85,7 +86,7 @@ fn add_items(
 ) -> Result<(), OutOfMemory>
     requires empty { problem.old.items ≡ [] }
     requires lines { length problem.old.lines ≡ length pairs.now.keys }
-    requires few { length pairs.now.keys ≤ 4096 }
+    requires few { length pairs.now.keys ≤ most_lines }
     requires items { AreItems (length pairs.now.keys) (map (item_of_draft pairs.now.keys) drafts.now) }
     ensures { OnOk result (problem.new ≡ record problem.old { items = map (item_of_draft pairs.now.keys) drafts.now }) }
 {
@@ -102,7 +103,7 @@ fn effects_on(
     pairs: &IndexSet<(Name, Name)>,
     moves: &[Move],
 ) -> Result<Seq<Effect>, OutOfMemory>
-    requires { length pairs.now.keys ≤ 4096 }
+    requires { length pairs.now.keys ≤ most_lines }
     ensures { IfOk result (λ effects. effects ≡ map (effect_on pairs.now.keys) moves.now) }
 {
     let mut effects = Seq::new(alloc);
@@ -118,7 +119,7 @@ fn push_effect(
     pairs: &IndexSet<(Name, Name)>,
     item: &Move,
 ) -> Result<(), OutOfMemory>
-    requires { length pairs.now.keys ≤ 4096 }
+    requires { length pairs.now.keys ≤ most_lines }
     ensures { OnOk result (effects.new ≡ effects.old ++ effect_on pairs.now.keys item.now ∷ []) }
 {
     effects.push(Effect {
@@ -129,7 +130,7 @@ fn push_effect(
 
 /// The number of the line that a move changes.
 fn line_of(pairs: &IndexSet<(Name, Name)>, item: &Move) -> u32
-    requires { length pairs.now.keys ≤ 4096 }
+    requires { length pairs.now.keys ≤ most_lines }
     ensures { result ≡ line_of pairs.now.keys (pair_of item.now) }
 {
     match pairs.get_index_of(&(item.account, item.asset)) {

@@ -1,6 +1,7 @@
 ghost use Rattle.std.specs.Prelude.{◌≡◌, ◌<◌, ◌≤◌, ◌++◌, ℕ, List, [], ◌∷◌, None, not, map, length, unwrap_or, IfOk, OnOk};
 ghost use Rattle.std.specs.List.{filter};
 ghost use Rattle.dali_base.specs.NameList.{knows, place_of, with_name};
+ghost use Rattle.dali_queue.specs.Limits.{most_queued};
 ghost use Rattle.dali_queue.specs.Groups.{in_group, is_eligible};
 ghost use Rattle.dali_queue.specs.CycleProblem.{may_settle, groups_at, places_from};
 ghost use Rattle.dali_queue.specs.Eligible.{queue_with, waiting_of, with_place};
@@ -78,7 +79,7 @@ fn late_groups(
     cutoffs: &Cutoffs,
     moment: Moment,
 ) -> Result<Names, OutOfMemory>
-    requires { length entries.now ≤ 1024 }
+    requires { length entries.now ≤ most_queued }
     ensures { IfOk result (λ late. (group : List ℕ) → knows late.names group ≡ not (is_eligible (queue_with entries.now cutoffs.now) moment group)) }
 {
     let mut late = Names::new(alloc);
@@ -97,7 +98,7 @@ pub fn eligible_groups(
     cutoffs: &Cutoffs,
     moment: Moment,
 ) -> Result<Eligible, OutOfMemory>
-    requires { length entries.now ≤ 1024 }
+    requires { length entries.now ≤ most_queued }
     ensures at { IfOk result (λ eligible. eligible.at ≡ places_from (may_settle (queue_with entries.now cutoffs.now) moment) 0 (waiting_of entries.now)) }
     ensures item { IfOk result (λ eligible. eligible.item
         ≡ map (λ w. unwrap_or (place_of (groups_at (queue_with entries.now cutoffs.now) moment) w.group) 0) (filter (may_settle (queue_with entries.now cutoffs.now) moment) (waiting_of entries.now))) }

@@ -13,6 +13,7 @@ mod draft;
 mod eligible;
 mod entries;
 mod instruction;
+pub mod limits;
 mod queue;
 
 pub use cycle::CycleInput;

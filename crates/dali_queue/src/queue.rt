@@ -7,7 +7,7 @@ ghost use Rattle.dali_queue.specs.Instruction.{IsInstruction};
 ghost use Rattle.dali_queue.specs.Cutoffs.{LAST, cutoff_of, with_cutoff};
 ghost use Rattle.dali_queue.specs.Queue.{is_used, is_queued, item_of, place_in, entered, without, removed};
 ghost use Rattle.dali_queue.specs.Groups.{EntersAlone};
-ghost use Rattle.dali_queue.specs.Limits.{MOST_QUEUED, IsQueue};
+ghost use Rattle.dali_queue.specs.Limits.{most_queued, IsQueue};
 
 mod groups;
 mod net;
@@ -16,13 +16,11 @@ mod problem;
 use crate::cutoffs::Cutoffs;
 use crate::entries::Entries;
 use crate::instruction::{Gone, Instruction};
+use crate::limits::MOST_QUEUED;
 use dali_base::{Kind, Moment, Name, OutOfMemory, Places};
 use indexmap::IndexSet;
 use std::alloc::Global;
 use std::marker::Model;
-
-/// The most queued instructions.
-const MOST_QUEUED: usize = 1024;
 
 /// The queued instructions in order of entry with their groups, the ids ever accepted, and the cut-off of each kind.
 /// Contracts see them as lists (`specs/Queue.antt`), and beside them for how many more instructions there is room.
@@ -76,7 +74,7 @@ impl Queue {
     /// with the rank 1. Where there is room, memory isn't wanted. At want of memory the queue stays as it was.
     pub fn enter(&mut self, item: Instruction) -> Result<(), OutOfMemory>
         requires new { is_used self.old.queue item.id ≡ false }
-        requires few { length self.old.queue.waiting < MOST_QUEUED }
+        requires few { length self.old.queue.waiting < most_queued }
         requires item { IsInstruction item }
         requires rank { item.rank ≡ 1 }
         ensures ok { OnOk result (self.new.queue ≡ entered self.old.queue item) }
@@ -100,7 +98,7 @@ impl Queue {
 
     /// Whether there are 1,024 queued instructions.
     pub fn is_full(&self) -> bool
-        ensures { result ≡ nat_le MOST_QUEUED (length self.now.queue.waiting) }
+        ensures { result ≡ nat_le most_queued (length self.now.queue.waiting) }
     {
         self.entries.len() >= MOST_QUEUED
     }

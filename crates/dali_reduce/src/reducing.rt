@@ -1,5 +1,6 @@
 ghost use Rattle.std.specs.Prelude.{◌≡◌, ◌+◌, ◌≤◌, ℕ, ◌<◌, [], length, true, false, Bool, IfOk, OnOk, OnErr, MatchBool, Some, slice_set, IsTrue, nat_le, slice_index_or};
 ghost use Rattle.std.specs.List.{list_all, list_any};
+ghost use Rattle.dali_base.specs.Limits.{most_fixes};
 ghost use Rattle.dali_problem.specs.declared.mark.Mark.TheVariants.{Undecided};
 ghost use Rattle.dali_problem.specs.Partial.{mark, is_decided};
 ghost use Rattle.dali_problem.specs.Rules.{is_safe};
@@ -30,7 +31,7 @@ pub fn reduce(alloc: Global, problem: &Problem, partial: &mut Partial) -> Result
     ensures taken { IfOk result (λ fixes. after problem.now fixes partial.old.marks ≡ Some partial.new.marks) }
     ensures back { IfOk result (λ fixes. undone fixes partial.new.marks ≡ partial.old.marks) }
     ensures fit { IfOk result (λ fixes. list_all (fix_fits (length problem.now.items) (length problem.now.lines)) fixes ≡ true) }
-    ensures few { IfOk result (λ fixes. length fixes ≤ 1024) }
+    ensures few { IfOk result (λ fixes. length fixes ≤ most_fixes) }
     ensures counted { IfOk result (λ fixes. undecided_count partial.new.marks + length fixes ≡ undecided_count partial.old.marks) }
     ensures more { OnOk result (DecidesMore partial.old.marks partial.new.marks) }
     ensures worth { OnOk result (KeepsWorth problem.now partial.old.marks partial.new.marks) }
@@ -66,7 +67,7 @@ pub fn reduce_after(
     ensures taken { IfOk result (λ fixes. after problem.now fixes partial.old.marks ≡ Some partial.new.marks) }
     ensures back { IfOk result (λ fixes. undone fixes partial.new.marks ≡ partial.old.marks) }
     ensures fit { IfOk result (λ fixes. list_all (fix_fits (length problem.now.items) (length problem.now.lines)) fixes ≡ true) }
-    ensures few { IfOk result (λ fixes. length fixes ≤ 1024) }
+    ensures few { IfOk result (λ fixes. length fixes ≤ most_fixes) }
     ensures counted { IfOk result (λ fixes. undecided_count partial.new.marks + length fixes ≡ undecided_count partial.old.marks) }
     ensures more { OnOk result (DecidesMore partial.old.marks partial.new.marks) }
     ensures worth { OnOk result (KeepsWorth problem.now partial.old.marks partial.new.marks) }

@@ -1,6 +1,7 @@
 ghost use Rattle.std.specs.Prelude.{◌≡◌, ◌==◌, ◌<◌, ◌≤◌, ◌^◌, Some, IfOk, IfSome, length};
 ghost use Rattle.std.specs.List.{list_any};
 ghost use Rattle.std.specs.Option.{option_map};
+ghost use Rattle.dali_base.specs.Limits.{most_budget};
 ghost use Rattle.dali_check.specs.Parts.{bound_of, branchings_of};
 ghost use Rattle.dali_problem.specs.Feasible.{ArePlaces};
 ghost use Rattle.dali_queue.specs.CycleProblem.{chosen_of};
@@ -33,7 +34,7 @@ impl State {
         line: &Line,
     ) -> Result<Option<(CycleInput, u64)>, OutOfMemory>
         ensures found { IfOk result (λ found. found ≡ option_map (λ c. (input_at self.now.machine c.0, c.1)) (accepted_cycle (judged edition self.now.machine line.now))) }
-        ensures budget { IfOk result (λ found. IfSome found (λ c. c.1 ≤ 4096)) }
+        ensures budget { IfOk result (λ found. IfSome found (λ c. c.1 ≤ most_budget)) }
     {
         match accepted_cycle(&self.judge(edition, line.bytes())) {
             Some(cycle) => {
@@ -53,7 +54,7 @@ impl State {
         choice: Choice,
     ) -> Result<Ready, OutOfMemory>
         requires few { self.old.machine.commands < 2 ^ 63 }
-        requires budget { budget ≤ 4096 }
+        requires budget { budget ≤ most_budget }
         requires choice { IsChoiceFor (problem_at self.old.machine moment) budget choice }
         ensures machine { self.new.machine ≡ self.old.machine }
         ensures made { IfOk result (IsMadeReady self.old.machine (Judgement.Yes moment (Wish.Cycle budget)) (Some (record { budget = budget; choice = choice }))) }
@@ -139,7 +140,7 @@ fn report_on(problem: Problem, ids: Ids, budget: u64, choice: Choice) -> CycleRe
     requires places { ArePlaces problem choice.places }
     requires ids { length ids < 2 ^ 32 }
     requires bound { bound_of choice.parts < 2 ^ 64 }
-    requires branches { branchings_of choice.parts ≤ 4096 }
+    requires branches { branchings_of choice.parts ≤ most_budget }
     ensures { result ≡ report_on problem ids budget choice }
 {
     let value = problem.value_of(&choice.places);
@@ -178,7 +179,7 @@ fn bound_of(parts: &[Part]) -> u64
 
 /// The branches of all trees.
 fn branchings_of(parts: &[Part]) -> u64
-    requires { branchings_of parts.now ≤ 4096 }
+    requires { branchings_of parts.now ≤ most_budget }
     ensures { result ≡ branchings_of parts.now }
 {
     let mut all = 0;

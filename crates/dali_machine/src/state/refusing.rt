@@ -8,14 +8,10 @@ mod queued;
 
 use super::State;
 use crate::outcome::Code;
+use dali_account::limits::{MOST_ACCOUNTS, MOST_CODES};
+use dali_base::limits::MOST_TOTAL;
 use dali_base::{Moment, Name};
 use dali_line::Verb;
-
-/// The most accounts, and the most codes.
-const MOST_NAMES: u32 = 1000;
-
-/// The most units of an asset.
-const MOST_UNITS: u64 = 1_000_000_000_000_000_000;
 
 impl State {
     /// Why the verb is refused at this moment. `None` where it isn't.
@@ -46,7 +42,7 @@ impl State {
     {
         if self.book.has_account(account) {
             Some(Code::There)
-        } else if self.book.accounts() >= MOST_NAMES {
+        } else if self.book.accounts() >= MOST_ACCOUNTS {
             Some(Code::Full)
         } else {
             None
@@ -59,7 +55,7 @@ impl State {
     {
         if self.book.has_asset(code) {
             Some(Code::There)
-        } else if self.book.assets() >= MOST_NAMES {
+        } else if self.book.assets() >= MOST_CODES {
             Some(Code::Full)
         } else {
             None
@@ -114,7 +110,7 @@ impl State {
     {
         if self.is_unknown_pair(account, asset) {
             Some(Code::Name)
-        } else if quantity > MOST_UNITS - self.book.total(asset) {
+        } else if quantity > MOST_TOTAL - self.book.total(asset) {
             Some(Code::Total)
         } else {
             None

@@ -2,7 +2,7 @@ ghost use Rattle.std.specs.Prelude.{◌≡◌, ◌≤◌, ◌+◌, false, IsTrue
 ghost use Rattle.dali_base.specs.Limits.{most_rank};
 ghost use Rattle.dali_queue.specs.Queue.{is_queued, ranked};
 ghost use Rattle.dali_queue.specs.Groups.{same_group, group_size, linked, MakesOne};
-ghost use Rattle.dali_queue.specs.Limits.{MOST_LINKED};
+ghost use Rattle.dali_queue.specs.Limits.{most_linked};
 
 use super::Queue;
 use dali_base::Name;
@@ -14,7 +14,7 @@ impl Queue {
         requires first { IsTrue (is_queued self.old.queue.waiting first) }
         requires second { IsTrue (is_queued self.old.queue.waiting second) }
         requires apart { same_group self.old.queue.waiting first second ≡ false }
-        requires fits { group_size self.old.queue.waiting first + group_size self.old.queue.waiting second ≤ MOST_LINKED }
+        requires fits { group_size self.old.queue.waiting first + group_size self.old.queue.waiting second ≤ most_linked }
         ensures queue { self.new.queue ≡ record self.old.queue { waiting = linked self.old.queue.waiting first second } }
         ensures one { MakesOne self.old.queue.waiting self.new.queue.waiting first second }
         ensures room { self.new.spare ≡ self.old.spare }
@@ -41,7 +41,7 @@ impl Queue {
     /// The number of instructions in the group of the instruction with this id, at most 8. 0 where it isn't queued.
     pub fn group_size(&self, id: Name) -> u32
         ensures size { result ≡ group_size self.now.queue.waiting id }
-        ensures limit { result ≤ MOST_LINKED }
+        ensures limit { result ≤ most_linked }
     {
         match self.entries.group(id) {
             Some(group) => self.entries.count_in(group) as u32,

@@ -1,5 +1,6 @@
 use Rattle.std.proofs.Common.{◌≡◌, ◌≤◌, ◌+◌, ◌*◌, ◌-◌, length}
-use Rattle.dali_line.specs.Lines.{reach, MOST_OF_FILE}
+use Rattle.dali_line.specs.Limits.{most_file}
+use Rattle.dali_line.specs.Lines.{reach}
 use Rattle.dali_line.specs.Open.{Midway}
 use Rattle.dali_line.proofs.scan.read_command.Given as goal
 
@@ -12,4 +13,4 @@ invariant-turns g l = record {
 }
 
 abbrev pub decreases-turns : goal.decreases-turns
-decreases-turns g l = 2 * (MOST_OF_FILE - l.taken) + length l.block
+decreases-turns g l = 2 * (most_file - l.taken) + length l.block

@@ -6,11 +6,12 @@ ghost use Rattle.dali_machine.specs.Refusals.{is_entry, refusal, worth, unknown_
 use crate::cash::is_cash;
 use crate::outcome::Code;
 use crate::state::State;
+use dali_base::limits::MOST_QUANTITY;
 use dali_base::{Kind, Moment, Name};
 use dali_line::Verb;
 
 /// The greatest value of an instruction, in centavos.
-const MOST_VALUE: u128 = 1_000_000_000_000_000;
+const MOST_VALUE: u128 = MOST_QUANTITY as u128;
 
 impl State {
     /// Of the verbs that enter an instruction.

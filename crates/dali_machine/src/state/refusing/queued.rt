@@ -9,9 +9,7 @@ use crate::outcome::Code;
 use crate::state::State;
 use dali_base::{Moment, Name};
 use dali_queue::Instruction;
-
-/// The most instructions of a group.
-const MOST_LINKED: u32 = 8;
+use dali_queue::limits::MOST_LINKED;
 
 impl State {
     /// Of the verbs that only ask that the instruction is queued.

@@ -4,7 +4,7 @@ use Rattle.std.specs.Prelude.{All}
 use Rattle.dali_account.specs.declared.net.Move.{Move}
 use Rattle.dali_account.specs.Units.{Units, units_of}
 use Rattle.dali_account.specs.Book.{BookState, knows_pair, held, total_of}
-use Rattle.dali_account.specs.Refusals.{LIMIT}
+use Rattle.dali_base.specs.Limits.{most_total}
 use Rattle.dali_account.specs.AssetList.{prices}
 use Rattle.dali_account.specs.Net.{IsNet, pair_of, with_net, asset_delta}
 use Rattle.dali_account.proofs.MidwayLemmas.{Midway, next_rest, midway_start, midway_more, midway_totals, units_fit, total_fits}
@@ -24,8 +24,8 @@ loop-item-init c =
           (subst (λ (n : List Move). All (λ (m : Move). knows_pair c.args.self.now.book m.account m.asset ≡ true) n) (sym moves) c.requires.known))
           (subst (λ (s : BookState). All (λ (m : Move). pos 0 ≤ℤ (pos (units_of s.book.balances (pair_of m)) +ℤ m.delta)) c.moves-item-items.result.now) (sym c.self.view_is)
           (subst (λ (n : List Move). All (λ (m : Move). pos 0 ≤ℤ (pos (units_of c.args.self.now.book.balances (pair_of m)) +ℤ m.delta)) n) (sym moves) c.requires.covered))
-          (subst (λ (s : BookState). (q : List ℕ) → held s.book.accounts (with_net s.book.balances c.moves-item-items.result.now) s.book.earmarks q ≤ LIMIT) (sym c.self.view_is)
-          (subst (λ (n : List Move). (q : List ℕ) → held c.args.self.now.book.accounts (with_net c.args.self.now.book.balances n) c.args.self.now.book.earmarks q ≤ LIMIT) (sym moves) c.requires.limit));
+          (subst (λ (s : BookState). (q : List ℕ) → held s.book.accounts (with_net s.book.balances c.moves-item-items.result.now) s.book.earmarks q ≤ most_total) (sym c.self.view_is)
+          (subst (λ (n : List Move). (q : List ℕ) → held c.args.self.now.book.accounts (with_net c.args.self.now.book.balances n) c.args.self.now.book.earmarks q ≤ most_total) (sym moves) c.requires.limit));
     }
 
 pub add_move-requires-clause-units : goal.add_move-requires-clause-units
