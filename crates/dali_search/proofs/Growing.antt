@@ -8,9 +8,8 @@ use Rattle.dali_problem.specs.Limits.{IsProblem}
 use Rattle.dali_fixes.specs.Fixed.{after}
 use Rattle.dali_fixes.proofs.Exchange.{after_length}
 use Rattle.dali_problem.specs.Partial.{Agrees}
-use Rattle.dali_tree.specs.Fits.{lam_fits}
 use Rattle.dali_check.specs.Proves.{closes}
-use Rattle.dali_check.specs.Lean.{reaches, is_worked, is_nearest, is_open}
+use Rattle.dali_check.specs.Lean.{reaches, is_open}
 use Rattle.dali_search.specs.declared.best.Best.{Best}
 use Rattle.dali_search.specs.declared.node.Node.{Node}
 use Rattle.dali_search.specs.declared.node.NodeEnd.{NodeEnd}
@@ -126,11 +125,8 @@ arena_added p u w v x nodes totals enter k f split arena within less more leads 
               fixed = leads;
               fits = (arena.each k within).fits;
               ends = record {
-                listed = subst (λ (l : List (ℕ × ℕ)). lam_fits (length p.lines) l ≡ true) (sym at.same) reached.holds.listed;
-                led = led_of p w split.lam f split.place
-                    (subst (λ (l : List (ℕ × ℕ)). reaches p w l f ≡ true) (sym at.same) reaches_w)
-                    (subst (λ (l : List (ℕ × ℕ)). is_worked p l f ≡ true) (sym at.same) reached.holds.worked)
-                    (subst (λ (l : List (ℕ × ℕ)). is_nearest p l f split.place ≡ true) (sym at.same) at.nearest);
+                listed = at.lead.listed;
+                led = led_of p w split.lam f split.place (at.lead.reached w reaches_w) (at.lead.worked reached.holds.worked) at.nearest;
                 undecided = at.undecided;
                 inner = entered_first n f split.place enter;
                 outer = entered_second n f split.place enter;

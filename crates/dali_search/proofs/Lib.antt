@@ -1,3 +1,4 @@
+pub mod Leading
 pub mod Climbing
 pub mod Adding
 pub mod Falling

@@ -2,6 +2,7 @@ pub mod Start
 pub mod Nodes
 pub mod Best
 pub mod Arena
+pub mod Lead
 pub mod Sides
 pub mod Stands
 pub mod Whole

@@ -15,6 +15,7 @@ use Rattle.dali_search.specs.declared.node.NodeEnd.{NodeEnd}
 use Rattle.dali_search.specs.declared.node.NodeEnd.TheVariants.{Open, Pruned, Branched}
 use Rattle.dali_search.specs.declared.desk.Desk.{Desk}
 use Rattle.dali_search.specs.declared.split.Split.{Split}
+use Rattle.dali_search.specs.Lead.{IsLead}
 use Rattle.dali_search.specs.Start.{start_of}
 use Rattle.dali_search.specs.Nodes.{leaf_bound}
 use Rattle.dali_search.specs.Arena.{IsOpenAt, IsPrunedAt}
@@ -44,10 +45,10 @@ pub record IsLeafAt (p : Clearing) (v : ℕ) (f : List Mark) (node : Node) : Typ
 pub record IsBelow (p : Clearing) (lam : List (ℕ × ℕ)) (f : List Mark) (bound : ℕ) : Type 0 where
   pub below : (w : ℕ) → closes p w lam f ≡ true → bound ≤ w
 
--- both sides of a branch of node k at f by these multipliers
+-- both sides of a branch of node k at f, which goes by multipliers in place of these
 pub record IsSplitAt (p : Clearing) (v k : ℕ) (f : List Mark) (lam : List (ℕ × ℕ)) (split : Split) : Type 0 where
-  pub same : split.lam ≡ lam
-  pub nearest : is_nearest p lam f split.place ≡ true
+  pub lead : IsLead p f lam split.lam
+  pub nearest : is_nearest p split.lam f split.place ≡ true
   pub undecided : mark f split.place ≡ Undecided
   pub inner : IsLeafAt p v (slice_set f split.place Chosen) split.inside
   pub outer : IsLeafAt p v (slice_set f split.place Left) split.outside

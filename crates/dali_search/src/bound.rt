@@ -1,4 +1,4 @@
-ghost use Rattle.std.specs.Prelude.{◌≡◌, ℕ, ◌*◌, ◌+◌, ◌^◌, ◌<◌, ◌≤◌, ℤ, pos, ◌≤ℤ◌, ◌<ℤ◌, true, length, IfSome, IfNone, false};
+ghost use Rattle.std.specs.Prelude.{◌≡◌, ℕ, ◌*◌, ◌+◌, ◌^◌, ◌<◌, ◌≤◌, ℤ, pos, ◌≤ℤ◌, ◌<ℤ◌, true, length, IfSome, IfNone, false, IsTrue};
 ghost use Rattle.dali_problem.specs.Kept.{IsOf};
 ghost use Rattle.dali_problem.specs.Rules.{is_short};
 ghost use Rattle.dali_lagrange.specs.Bound.{sum_of};
@@ -22,8 +22,46 @@ pub(crate) fn bound(problem: &Problem, partial: &Partial, lam: &Lam, point: &mut
     ensures least { 0 < result → reaches problem.now result lam.now partial.now.marks ≡ true }
 {
     let _items = problem.items();
+    floor(&sum_of_lam(problem, partial, lam, point))
+}
+
+/// The Sum of these multipliers.
+fn sum_of_lam(problem: &Problem, partial: &Partial, lam: &Lam, point: &mut Point) -> i128
+    requires of { IsOf problem.now partial.now }
+    requires point { length point.old ≡ length problem.now.lines }
+    requires lam { AreMultipliers (length problem.now.lines) lam.now }
+    ensures point { length point.new ≡ length point.old }
+    ensures exact { result ≡ sum_of problem.now partial.now.marks (multiplier lam.now) }
+{
     point.load(lam);
-    floor(&sum(problem, partial, point))
+    sum(problem, partial, point)
+}
+
+/// Whether the Sum of these multipliers is at most that of the others.
+pub(crate) fn is_at_most(
+    problem: &Problem,
+    partial: &Partial,
+    lam: &Lam,
+    other: &Lam,
+    point: &mut Point,
+) -> bool
+    requires of { IsOf problem.now partial.now }
+    requires point { length point.old ≡ length problem.now.lines }
+    requires lam { AreMultipliers (length problem.now.lines) lam.now }
+    requires other { AreMultipliers (length problem.now.lines) other.now }
+    ensures point { length point.new ≡ length point.old }
+    ensures told { IsTrue result → sum_of problem.now partial.now.marks (multiplier lam.now) ≤ℤ sum_of problem.now partial.now.marks (multiplier other.now) }
+{
+    let sum = sum_of_lam(problem, partial, lam, point);
+    let above = sum_of_lam(problem, partial, other, point);
+    is_least(&sum, &above)
+}
+
+#[tactic(auto, using(std::proofs::lemmas::Int::ints))]
+fn is_least(sum: &i128, other: &i128) -> bool
+    ensures { IsTrue result → sum.now ≤ℤ other.now }
+{
+    *sum <= *other
 }
 
 /// How many whole centavos a Sum has.

@@ -6,6 +6,7 @@ ghost use Rattle.dali_search.specs.Sides.{IsDesk, IsSplitAt};
 
 use crate::best::Best;
 use crate::desk::Desk;
+use crate::lead::lead;
 use crate::leaf::side;
 use crate::nearest::nearest;
 use crate::split::Split;
@@ -14,7 +15,7 @@ use dali_problem::Problem;
 use dali_tree::Lam;
 use std::alloc::Global;
 
-/// Branches node `at`, whose partial choice is on the desk and is put back, by its multipliers.
+/// Branches node `at`, whose partial choice is on the desk and is put back, by its multipliers or by guessed ones.
 pub(crate) fn branch(
     alloc: Global,
     problem: &Problem,
@@ -33,12 +34,20 @@ pub(crate) fn branch(
     ensures not_worse { best.old.value ≤ best.new.value }
     ensures split { IfOk result (λ split. IsSplitAt problem.now best.new.value at desk.old.partial.marks lam.now split) }
 {
-    let place = nearest(problem, &desk.partial, lam, &mut desk.kept);
+    let lead = lead(
+        alloc,
+        problem,
+        &desk.partial,
+        lam,
+        best.value,
+        &mut desk.point,
+    )?;
+    let place = nearest(problem, &desk.partial, &lead, &mut desk.kept);
     let inside = side(alloc, problem, at, place, true, lam, desk, best)?;
     let outside = side(alloc, problem, at, place, false, lam, desk, best)?;
     Ok(Split {
         place,
-        lam: lam.copy(alloc)?,
+        lam: lead,
         inside,
         outside,
     })

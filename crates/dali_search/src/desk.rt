@@ -12,4 +12,8 @@ pub(crate) struct Desk {
     pub(crate) point: Point,
     /// Reduced values at a node's multipliers.
     pub(crate) kept: Kept,
+    /// How many flips for each undecided place a guess makes; none where this is 0.
+    pub(crate) flips_each: u64,
+    /// Whether the root is looked at, whose multipliers are guessed too.
+    pub(crate) is_root: bool,
 }

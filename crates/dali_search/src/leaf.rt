@@ -10,11 +10,12 @@ ghost use Rattle.dali_search.specs.Nodes.{leaf_bound};
 use crate::best::Best;
 use crate::bound::{bound, first_short};
 use crate::desk::Desk;
+use crate::guess::guess;
+use crate::multipliers::settle_well;
 use crate::node::{Node, NodeEnd};
 use crate::offer::offer;
 use dali_base::OutOfMemory;
 use dali_fixes::undo;
-use dali_lagrange::settle;
 use dali_problem::Problem;
 use dali_reduce::reduce;
 use dali_tree::Lam;
@@ -97,8 +98,16 @@ fn finish(
     if let Some(line) = first_short(problem, &desk.partial) {
         return Ok(NodeEnd::Pruned { line });
     }
-    offer(alloc, problem, &desk.partial, &desk.whole, best)?;
-    let lam = settle(alloc, problem, &desk.partial, start)?;
+    let lam = settle_well(
+        alloc,
+        problem,
+        &desk.partial,
+        start,
+        desk.is_root,
+        &mut desk.point,
+    )?;
     let bound = bound(problem, &desk.partial, &lam, &mut desk.point);
+    guess(alloc, problem, desk, bound, best)?;
+    offer(alloc, problem, &desk.partial, &desk.whole, best)?;
     Ok(NodeEnd::Open { lam, bound })
 }

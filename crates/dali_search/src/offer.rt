@@ -1,6 +1,7 @@
 ghost use Rattle.std.specs.Prelude.{◌≡◌, ◌≤◌, [], IfOk, OnOk};
 ghost use Rattle.dali_problem.specs.Feasible.{ArePlaces, IsFeasible, value_of};
 ghost use Rattle.dali_problem.specs.Kept.{IsOf};
+ghost use Rattle.dali_greedy.specs.Grown.{IsGrown};
 ghost use Rattle.dali_search.specs.Best.{IsBest, IsOffered};
 ghost use Rattle.dali_search.specs.Start.{start_of};
 
@@ -82,5 +83,42 @@ fn keep(
             Ok(())
         }
         None => unreachable!(),
+    }
+}
+
+/// Grows any set with all places undecided, and keeps what comes of it where that is worth more than the best one.
+pub(crate) fn suggest(
+    alloc: Global,
+    problem: &Problem,
+    whole: &Partial,
+    set: &Places,
+    best: &mut Best,
+) -> Result<(), OutOfMemory>
+    requires whole { IsOf problem.now whole.now }
+    requires undecided { whole.now.marks ≡ start_of problem.now }
+    requires places { ArePlaces problem.now set.now }
+    requires best { IsBest problem.now best.old }
+    ensures best { IsBest problem.now best.new }
+    ensures not_worse { best.old.value ≤ best.new.value }
+{
+    if problem.value_of(set) <= best.value {
+        return Ok(());
+    }
+    if let Some(places) = grow(alloc, problem, whole, set)? {
+        replace(problem, places, best);
+    }
+    Ok(())
+}
+
+/// Keeps a grown set where it is worth more than the best one.
+fn replace(problem: &Problem, places: Places, best: &mut Best)
+    requires grown { IsGrown problem.now (start_of problem.now) places }
+    requires best { IsBest problem.now best.old }
+    ensures best { IsBest problem.now best.new }
+    ensures not_worse { best.old.value ≤ best.new.value }
+{
+    let value = problem.value_of(&places);
+    if value > best.value {
+        *best = Best { places, value };
     }
 }

@@ -7,6 +7,7 @@ ghost use Rattle.dali_search.specs.Start.{all_places, start_of};
 ghost use Rattle.dali_search.specs.Sides.{IsDesk};
 
 use crate::desk::Desk;
+use crate::guess::FLIPS_AT_ROOT;
 use dali_base::{OutOfMemory, Places};
 use dali_lagrange::{Kept, Point};
 use dali_problem::{Partial, Problem};
@@ -38,6 +39,8 @@ pub(crate) fn new_desk(
         whole: new_start(alloc, problem, places)?,
         point: Point::new(alloc, problem)?,
         kept: new_kept(alloc, problem, places)?,
+        flips_each: FLIPS_AT_ROOT,
+        is_root: true,
     })
 }
 

@@ -1,4 +1,5 @@
 ghost use Rattle.std.specs.Prelude.{◌≡◌, ◌+◌, ◌^◌, ◌<◌, ◌≤◌, ◌∷◌, [], true, max, length, IfOk, OnOk};
+ghost use Rattle.dali_base.specs.Limits.{most_budget};
 ghost use Rattle.dali_problem.specs.Feasible.{value_of};
 ghost use Rattle.dali_tree.specs.Fits.{Fits};
 ghost use Rattle.dali_check.specs.Allowed.{Allowed};
@@ -17,6 +18,7 @@ use crate::branch::branch;
 use crate::build::tree_of;
 use crate::descend::descend;
 use crate::desk::Desk;
+use crate::guess::flips_behind;
 use crate::leaf::leaf;
 use crate::node::{Node, NodeEnd};
 use crate::offer::first_best;
@@ -33,7 +35,7 @@ use std::alloc::Global;
 ///
 /// Where the budget is at least 2^m - 1, for m items, no set is worth more than the choice's.
 pub fn solve(alloc: Global, problem: &Problem, budget: u64) -> Result<Choice, OutOfMemory>
-    requires { budget ≤ 4096 }
+    requires { budget ≤ most_budget }
     ensures fits { IfOk result (λ choice. Fits (length problem.now.items) (length problem.now.lines) choice) }
     ensures allowed { IfOk result (λ choice. Allowed problem.now budget choice) }
     ensures whole { IfOk result (λ choice. IsWhole (length problem.now.items) choice) }
@@ -90,7 +92,7 @@ fn step(
     requires best { IsBest problem.now best.old }
     requires searched { IsSearched problem.now best.old.value arena.old.nodes.items arena.old.totals.items }
     requires above { best.old.value < (total_at arena.old.totals.items 0).greatest }
-    requires few { (total_at arena.old.totals.items 0).branches < 4096 }
+    requires few { (total_at arena.old.totals.items 0).branches < most_budget }
     ensures desk { OnOk result (IsDesk problem.now desk.new) }
     ensures start { OnOk result (desk.new.partial.marks ≡ start_of problem.now) }
     ensures best { IsBest problem.now best.new }
@@ -98,6 +100,8 @@ fn step(
     ensures more { OnOk result ((total_at arena.new.totals.items 0).branches ≡ (total_at arena.old.totals.items 0).branches + 1) }
 {
     let _items = problem.items();
+    desk.flips_each = flips_behind(arena.branches());
+    desk.is_root = false;
     let nodes = arena.nodes.as_slice();
     let totals = arena.totals.as_slice();
     let at = descend(problem, nodes, totals, &mut desk.partial);
