@@ -15,6 +15,8 @@ mod judging;
 #[cfg(test)]
 mod leaning;
 #[cfg(test)]
+mod parted;
+#[cfg(test)]
 mod plain;
 #[cfg(test)]
 mod problems;

@@ -4,6 +4,7 @@ use Rattle.dali_problem.specs.Clearing.{Clearing, effect}
 use Rattle.dali_problem.specs.declared.columns.Touch.{Touch}
 use Rattle.dali_problem.specs.Touches.{touches}
 use Rattle.dali_reduce.specs.Run.{IsTouch}
+use Rattle.dali_restrict.specs.Below.{places_below}
 use Rattle.dali_parts.specs.Finest.{Linked}
 
 -- what follows serves private functions: no public clause cites it
@@ -75,11 +76,6 @@ pub record AreNumbered (p : Clearing) (classes : List (Option ℕ)) (seen : List
 abbrev pub is_of : ℕ → Option ℕ → Bool
 is_of c None = false
 is_of c (Some d) = d == c
-
--- the places below n that a test has, rising
-abbrev pub places_below : (ℕ → Bool) → ℕ → List ℕ
-places_below test zero = []
-places_below test (suc n) = places_below test n ++ (if test n then n ∷ [] else [])
 
 -- the places below n of class c
 abbrev pub members_below : List (Option ℕ) → ℕ → ℕ → List ℕ

@@ -1,2 +1,3 @@
 pub mod Finest
 pub mod Flood
+pub mod Joined

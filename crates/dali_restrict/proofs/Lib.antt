@@ -1,0 +1,11 @@
+pub mod Spread
+pub mod Below
+pub mod Renumber
+pub mod Wide
+pub mod Weighed
+pub mod Pieces
+pub mod Restricting
+pub mod Judged
+pub mod Trees
+pub mod Fitting
+pub mod Parted
