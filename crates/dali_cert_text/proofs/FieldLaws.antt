@@ -15,7 +15,7 @@ use Rattle.dali_base.specs.Readers.{spelled_name, spelled_number}
 use Rattle.dali_base.proofs.Spelled.{and_parts, both, chosen, own, number_spelled, number_found, name_spelled, name_found}
 use Rattle.dali_problem.specs.declared.row.Effect.{Effect}
 use Rattle.dali_problem.specs.Limits.{Within}
-use Rattle.dali_cert_text.specs.Rows.{effect_field, multiplier_field}
+use Rattle.dali_cert_print.specs.Rows.{effect_field, multiplier_field}
 use Rattle.dali_cert_text.specs.Fields.{alone, number_of, name_of, number_below, place_of, number_within, cut_at_colon, amount_of, effect_of, multiplier_of}
 use Rattle.dali_cert_text.proofs.Binds.{bind_some, either, some_is, if_true}
 

@@ -16,9 +16,9 @@ use Rattle.dali_cert_text.specs.declared.growth.Frame.{Frame}
 use Rattle.dali_cert_text.specs.declared.growth.Frame.TheVariants as frames
 use Rattle.dali_cert_text.specs.declared.growth.Growth.{Growth}
 use Rattle.dali_cert_text.specs.declared.growth.Growth.TheVariants.{Open, Grown}
-use Rattle.dali_cert_text.specs.declared.row.Row.{Row}
-use Rattle.dali_cert_text.specs.declared.row.Row.TheVariants as rows
-use Rattle.dali_cert_text.specs.Block.{tree_rows}
+use Rattle.dali_cert_print.specs.declared.row.Row.{Row}
+use Rattle.dali_cert_print.specs.declared.row.Row.TheVariants as rows
+use Rattle.dali_cert_print.specs.Block.{tree_rows}
 use Rattle.dali_cert_text.specs.Growth.{tree_of, grown}
 use Rattle.dali_cert_text.proofs.Rowing.{frames_rows, rows_of_tree, depth_of, fits_of}
 

@@ -1,7 +1,7 @@
 use Rattle.std.proofs.Common.{◌≡◌, ◌∙◌, ◌≤◌, Some, List, [], ◌∷◌, ◌++◌, length, map, refl, sym, ap, subst, arith}
 use Rattle.std.specs.Prelude.{option_and_then}
-use Rattle.dali_cert_text.specs.declared.row.Row.{Row}
-use Rattle.dali_cert_text.specs.Rows.{row_line}
+use Rattle.dali_cert_print.specs.declared.row.Row.{Row}
+use Rattle.dali_cert_print.specs.Rows.{row_line}
 use Rattle.dali_cert_text.specs.Rowed.{IsRow}
 use Rattle.dali_cert_text.specs.Stages.{Stage, problem_of, step, next, run}
 use Rattle.dali_cert_text.proofs.Going.{next_is}

@@ -16,10 +16,10 @@ use Rattle.dali_tree.specs.declared.choice.Part.{Part}
 use Rattle.dali_tree.specs.declared.choice.Choice.{Choice}
 use Rattle.dali_tree.specs.Fits.{AreRising, first_member}
 use Rattle.dali_cert_text.specs.declared.block.Block.{Block}
-use Rattle.dali_cert_text.specs.declared.row.Row.{Row}
-use Rattle.dali_cert_text.specs.declared.row.Row.TheVariants as rows
-use Rattle.dali_cert_text.specs.Rows.{row_line, row_text, rows_text}
-use Rattle.dali_cert_text.specs.Block.{is_small_item, is_small_bound, is_wide, tree_rows, part_rows, item_row}
+use Rattle.dali_cert_print.specs.declared.row.Row.{Row}
+use Rattle.dali_cert_print.specs.declared.row.Row.TheVariants as rows
+use Rattle.dali_cert_print.specs.Rows.{row_line, row_text, rows_text}
+use Rattle.dali_cert_print.specs.Block.{is_small_item, is_small_bound, is_wide, tree_rows, part_rows, item_row}
 use Rattle.dali_cert_text.specs.Form.{Spells, IsDraft, draft_rows, IsLine, is_line, lines_text, BeginsDraft, IsFormLine}
 use Rattle.dali_cert_text.specs.Growth.{tree_of}
 use Rattle.dali_cert_text.specs.Stating.{no_lines}

@@ -7,7 +7,7 @@ use Rattle.std.specs.Prelude.{option_and_then}
 use Rattle.dali_base.proofs.Spelled.{and_parts}
 use Rattle.dali_problem.specs.Limits.{IsProblem}
 use Rattle.dali_tree.specs.declared.choice.Part.{Part}
-use Rattle.dali_cert_text.specs.declared.row.Row.{Row}
+use Rattle.dali_cert_print.specs.declared.row.Row.{Row}
 use Rattle.dali_cert_text.specs.Form.{IsLine, is_line, lines_text}
 use Rattle.dali_cert_text.specs.Reading.{row_of}
 use Rattle.dali_cert_text.specs.Stages.{Setting, Stage, Whole, problem_of, step, next, run, Unread, Goes, Stops, Takes, Lacks}

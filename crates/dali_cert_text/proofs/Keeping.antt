@@ -15,14 +15,14 @@ use Rattle.dali_tree.specs.declared.tree.Tree.{Tree}
 use Rattle.dali_tree.specs.declared.tree.End.TheOpen.{End-F}
 use Rattle.dali_tree.specs.declared.choice.Part.{Part}
 use Rattle.dali_tree.specs.Fits.{AreRising, PartFits, first_member, fix_fits}
-use Rattle.dali_cert_text.specs.declared.row.Row.{Row}
-use Rattle.dali_cert_text.specs.declared.row.Row.TheVariants as rows
+use Rattle.dali_cert_print.specs.declared.row.Row.{Row}
+use Rattle.dali_cert_print.specs.declared.row.Row.TheVariants as rows
 use Rattle.dali_cert_text.specs.declared.growth.Frame.{Frame}
 use Rattle.dali_cert_text.specs.declared.growth.Frame.TheVariants as frames
 use Rattle.dali_cert_text.specs.declared.growth.Growth.{Growth}
 use Rattle.dali_cert_text.specs.declared.growth.Growth.TheVariants.{Open, Grown}
-use Rattle.dali_cert_text.specs.Rows.{row_line}
-use Rattle.dali_cert_text.specs.Block.{is_small_item, is_small_bound, part_rows, item_row}
+use Rattle.dali_cert_print.specs.Rows.{row_line}
+use Rattle.dali_cert_print.specs.Block.{is_small_item, is_small_bound, part_rows, item_row}
 use Rattle.dali_cert_text.specs.Rowed.{IsRow}
 use Rattle.dali_cert_text.specs.Growth.{tree_of, grown, grow}
 use Rattle.dali_cert_text.specs.Reading.{row_of}

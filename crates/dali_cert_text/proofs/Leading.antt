@@ -21,14 +21,14 @@ use Rattle.dali_tree.specs.declared.choice.Part.{Part}
 use Rattle.dali_tree.specs.Fits.{PartFits, first_member, fix_fits, lam_fits, end_fits, tree_fits}
 use Rattle.dali_tree.specs.Tree.{depth_step, branch_depth}
 use Rattle.dali_tree.specs.Ends.{ends_fit, end_depth}
-use Rattle.dali_cert_text.specs.declared.row.Row.{Row}
-use Rattle.dali_cert_text.specs.declared.row.Row.TheVariants as rows
+use Rattle.dali_cert_print.specs.declared.row.Row.{Row}
+use Rattle.dali_cert_print.specs.declared.row.Row.TheVariants as rows
 use Rattle.dali_cert_text.specs.declared.growth.Frame.{Frame}
 use Rattle.dali_cert_text.specs.declared.growth.Frame.TheVariants as frames
 use Rattle.dali_cert_text.specs.declared.growth.Growth.{Growth}
 use Rattle.dali_cert_text.specs.declared.growth.Growth.TheVariants.{Open}
 use Rattle.dali_cert_text.specs.declared.block.Block.{Block}
-use Rattle.dali_cert_text.specs.Block.{is_small, is_small_item, is_small_bound, end_step, end_rows, tree_rows, part_rows, item_row}
+use Rattle.dali_cert_print.specs.Block.{is_small, is_small_item, is_small_bound, end_step, end_rows, tree_rows, part_rows, item_row}
 use Rattle.dali_cert_text.specs.Form.{IsDraft, draft_rows}
 use Rattle.dali_cert_text.specs.Growth.{tree_of, grown, grow}
 use Rattle.dali_cert_text.specs.Stating.{no_lines, may_line, may_item, with_line, with_item, values_of, state_row, least_first, part_row, edition_row, budget_row}

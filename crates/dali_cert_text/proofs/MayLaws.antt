@@ -18,7 +18,7 @@ use Rattle.dali_problem.specs.declared.row.LineRow.{LineRow}
 use Rattle.dali_problem.specs.declared.row.Effect.{Effect}
 use Rattle.dali_problem.specs.Clearing.{Item, Clearing, line_at}
 use Rattle.dali_problem.specs.Limits.{IsBefore}
-use Rattle.dali_cert_text.specs.Block.{is_small}
+use Rattle.dali_cert_print.specs.Block.{is_small}
 use Rattle.dali_cert_text.specs.Stating.{before_by, is_before, may_line, may_item, values_of, ids_of, with_item}
 
 -- What the tests on a line and on an item tell.

@@ -9,7 +9,7 @@ use Rattle.dali_problem.specs.declared.row.Effect.{Effect}
 use Rattle.dali_problem.specs.Limits.{Within, AreEffects}
 use Rattle.dali_tree.specs.Fits.{AreRising, is_rising, multiplier_fits, lam_fits}
 use Rattle.dali_fits.proofs.Rising.{rising_lines}
-use Rattle.dali_cert_text.specs.Rows.{effect_field, multiplier_field}
+use Rattle.dali_cert_print.specs.Rows.{effect_field, multiplier_field}
 use Rattle.dali_cert_text.specs.Fields.{rising_of, number_below, effect_of, multiplier_of, places_of, effects_of, multipliers_of}
 use Rattle.dali_cert_text.proofs.Binds.{bind_some, some_is}
 use Rattle.dali_cert_text.proofs.FieldLaws.{IsAmount, below_is, below_again, effect_is, effect_again, multiplier_is, multiplier_again}

@@ -6,9 +6,9 @@ use Rattle.dali_base.proofs.Spelled.{and_parts, both, same_then}
 use Rattle.dali_problem.specs.declared.row.LineRow.{LineRow}
 use Rattle.dali_problem.specs.declared.row.Effect.{Effect}
 use Rattle.dali_tree.specs.declared.fix.Fix.TheVariants.{Barred, Needed, Safe}
-use Rattle.dali_cert_text.specs.declared.row.Row.{Row}
-use Rattle.dali_cert_text.specs.declared.row.Row.TheVariants as rows
-use Rattle.dali_cert_text.specs.Rows.{word_of, fields_of, effect_field, multiplier_field}
+use Rattle.dali_cert_print.specs.declared.row.Row.{Row}
+use Rattle.dali_cert_print.specs.declared.row.Row.TheVariants as rows
+use Rattle.dali_cert_print.specs.Rows.{word_of, fields_of, effect_field, multiplier_field}
 use Rattle.dali_cert_text.specs.Rowed.{IsRow}
 use Rattle.dali_cert_text.specs.Fields.{alone, number_of, name_of, place_of, places_of, effects_of, multipliers_of}
 use Rattle.dali_cert_text.specs.Reading.{block_of, budget_of, line_of, item_of, set_of, part_of, barred_of, needed_of, safe_of, bound_of, short_of, branch_of, last_of, tree_row_of, other_row_of, is_tree_word, row_with}

@@ -11,13 +11,13 @@ use Rattle.dali_tree.specs.declared.tree.End.TheViews.{roll-End}
 use Rattle.dali_tree.specs.Fits.{fix_fits, end_fits, tree_fits}
 use Rattle.dali_tree.specs.Tree.{depth_step, branch_depth}
 use Rattle.dali_tree.specs.Ends.{ends_fit, end_depth}
-use Rattle.dali_cert_text.specs.declared.row.Row.{Row}
-use Rattle.dali_cert_text.specs.declared.row.Row.TheVariants as rows
+use Rattle.dali_cert_print.specs.declared.row.Row.{Row}
+use Rattle.dali_cert_print.specs.declared.row.Row.TheVariants as rows
 use Rattle.dali_cert_text.specs.declared.growth.Frame.{Frame}
 use Rattle.dali_cert_text.specs.declared.growth.Frame.TheVariants as frames
 use Rattle.dali_cert_text.specs.declared.growth.Growth.{Growth}
 use Rattle.dali_cert_text.specs.declared.growth.Growth.TheVariants.{Open, Grown}
-use Rattle.dali_cert_text.specs.Block.{end_step, tree_rows, end_rows}
+use Rattle.dali_cert_print.specs.Block.{end_step, tree_rows, end_rows}
 use Rattle.dali_cert_text.specs.Growth.{tree_of, grown}
 
 -- The rows of a tree, and of one that is still growing.

@@ -5,11 +5,11 @@ use Rattle.dali_problem.specs.Limits.{IsProblem}
 use Rattle.dali_tree.specs.declared.fix.Fix.{Fix}
 use Rattle.dali_tree.specs.declared.choice.Part.{Part}
 use Rattle.dali_tree.specs.Fits.{first_member}
-use Rattle.dali_cert_text.specs.declared.row.Row.{Row}
-use Rattle.dali_cert_text.specs.declared.row.Row.TheVariants as rows
+use Rattle.dali_cert_print.specs.declared.row.Row.{Row}
+use Rattle.dali_cert_print.specs.declared.row.Row.TheVariants as rows
 use Rattle.dali_cert_text.specs.declared.growth.Frame.{Frame}
 use Rattle.dali_cert_text.specs.declared.growth.Growth.{Growth}
-use Rattle.dali_cert_text.specs.Block.{is_small_bound}
+use Rattle.dali_cert_print.specs.Block.{is_small_bound}
 use Rattle.dali_cert_text.specs.Rowed.{IsRow}
 use Rattle.dali_cert_text.specs.Growth.{grow}
 use Rattle.dali_cert_text.specs.Stating.{no_lines, state_row, least_first, part_row, edition_row, budget_row}

@@ -13,9 +13,9 @@ use Rattle.dali_base.proofs.Spelled.{and_parts, both}
 use Rattle.dali_problem.specs.declared.row.Effect.{Effect}
 use Rattle.dali_tree.specs.declared.fix.Fix.TheVariants.{Barred, Needed, Safe}
 use Rattle.dali_tree.specs.Fits.{multiplier_fits, is_rising}
-use Rattle.dali_cert_text.specs.declared.row.Row.{Row}
-use Rattle.dali_cert_text.specs.declared.row.Row.TheVariants as rows
-use Rattle.dali_cert_text.specs.Rows.{word_of, fields_of, effect_field, multiplier_field, after_commas, row_line}
+use Rattle.dali_cert_print.specs.declared.row.Row.{Row}
+use Rattle.dali_cert_print.specs.declared.row.Row.TheVariants as rows
+use Rattle.dali_cert_print.specs.Rows.{word_of, fields_of, effect_field, multiplier_field, after_commas, row_line}
 use Rattle.dali_cert_text.specs.Rowed.{IsRow}
 use Rattle.dali_cert_text.specs.Fields.{pieces}
 use Rattle.dali_cert_text.specs.Reading.{row_with, row_of}

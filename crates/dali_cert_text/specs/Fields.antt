@@ -1,5 +1,6 @@
-use Rattle.std.specs.Prelude.{ℕ, ◌+◌, ◌*◌, ◌-◌, ◌^◌, ◌==◌, ◌&&◌, nat_lt, nat_le, Option, Some, None, option_and_then, if◌then◌else◌, List, [], ◌∷◌, take, drop, position, ℤ, pos, neg_ℤ}
+use Rattle.std.specs.Prelude.{ℕ, ◌+◌, ◌-◌, ◌^◌, ◌==◌, ◌&&◌, nat_lt, nat_le, Option, Some, None, option_and_then, if◌then◌else◌, List, [], ◌∷◌, take, drop, position, ℤ, pos, neg_ℤ}
 use Rattle.std.specs.List.{slice_split}
+use Rattle.dali_base.specs.Limits.{most_effect, most_multiplier}
 use Rattle.dali_base.specs.Readers.{spelled_name, spelled_number}
 use Rattle.dali_problem.specs.declared.row.Effect.{Effect}
 
@@ -53,8 +54,8 @@ cut_at_colon bytes = option_and_then (λ i. Some (take i bytes, drop (i + 1) byt
 unfoldable pub amount_of : List ℕ → Option ℤ
 amount_of [] = None
 amount_of (b ∷ bytes) =
-    if b == 45 then option_and_then (λ n. Some (neg_ℤ (pos n))) (number_within 1 (8 * 10 ^ 15) bytes)
-    else option_and_then (λ n. Some (pos n)) (number_within 1 (8 * 10 ^ 15) (b ∷ bytes))
+    if b == 45 then option_and_then (λ n. Some (neg_ℤ (pos n))) (number_within 1 most_effect bytes)
+    else option_and_then (λ n. Some (pos n)) (number_within 1 most_effect (b ∷ bytes))
 
 -- the effect that a field spells, on a line from low to below end
 unfoldable pub effect_of : ℕ → ℕ → List ℕ → Option Effect
@@ -66,7 +67,7 @@ effect_of end low field =
 unfoldable pub multiplier_of : ℕ → ℕ → List ℕ → Option (ℕ × ℕ)
 multiplier_of end low field =
     option_and_then (λ cut. option_and_then (λ line. option_and_then (λ m. Some (line, m))
-    (number_within 1 (2 ^ 44) cut.1)) (number_below end low cut.0)) (cut_at_colon field)
+    (number_within 1 most_multiplier cut.1)) (number_below end low cut.0)) (cut_at_colon field)
 
 -- what fields stand for, each read from a low number on that lies above the number of the one before
 abbrev pub rising_of : {A : Type 0} → (ℕ → List ℕ → Option A) → (A → ℕ) → ℕ → List (List ℕ) → Option (List A)

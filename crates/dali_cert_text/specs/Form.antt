@@ -1,19 +1,20 @@
 use Rattle.std.specs.Prelude.{◌≡◌, ℕ, ◌+◌, ◌==◌, ◌≤◌, ◌⊎◌, Bool, true, false, not, IsTrue, List, [], ◌∷◌, ◌++◌, length}
 use Rattle.std.specs.List.{All, AllByRecursion, flat_map, list_all}
+use Rattle.dali_base.specs.Limits.{most_budget}
 use Rattle.dali_base.specs.Spelling.{is_name}
 use Rattle.dali_problem.specs.Limits.{IsProblem}
 use Rattle.dali_tree.specs.Fits.{Fits}
 use Rattle.dali_cert_text.specs.declared.block.Block.{Block}
-use Rattle.dali_cert_text.specs.declared.row.Row.{Row}
-use Rattle.dali_cert_text.specs.Rows.{rows_text}
-use Rattle.dali_cert_text.specs.Block.{is_wide, block_rows, block_text}
+use Rattle.dali_cert_print.specs.declared.row.Row.{Row}
+use Rattle.dali_cert_print.specs.Rows.{rows_text}
+use Rattle.dali_cert_print.specs.Block.{is_wide, block_rows, block_text}
 
 -- a problem, a budget and a choice that have a block
 pub record IsBlock (b : Block) : Type 0 where
   pub problem : IsProblem b.problem
   pub names : All (λ line. IsTrue (is_name line.account) × IsTrue (is_name line.asset)) b.problem.lines
   pub ids : All (λ item. IsTrue (is_name item.id)) b.problem.items
-  pub budget : b.budget ≤ 4096
+  pub budget : b.budget ≤ most_budget
   pub choice : Fits (length b.problem.items) (length b.problem.lines) b.choice
 
 -- the bytes are the block of a problem, a budget and a choice

@@ -1,11 +1,12 @@
 use Rattle.std.specs.Prelude.{nat_lt, Option, Some, None, if◌then◌else◌, List, [], ◌∷◌, ◌++◌, length}
+use Rattle.dali_base.specs.Limits.{most_depth, most_fixes}
 use Rattle.dali_tree.specs.declared.fix.Fix.{Fix}
 use Rattle.dali_tree.specs.declared.tree.Tree.{Tree}
 use Rattle.dali_tree.specs.declared.tree.End.{End}
 use Rattle.dali_tree.specs.declared.tree.End.TheOpen.{End-F}
 use Rattle.dali_tree.specs.declared.tree.End.TheViews.{roll-End, roll-Tree}
-use Rattle.dali_cert_text.specs.declared.row.Row.{Row}
-use Rattle.dali_cert_text.specs.declared.row.Row.TheVariants as rows
+use Rattle.dali_cert_print.specs.declared.row.Row.{Row}
+use Rattle.dali_cert_print.specs.declared.row.Row.TheVariants as rows
 use Rattle.dali_cert_text.specs.declared.growth.Frame.{Frame}
 use Rattle.dali_cert_text.specs.declared.growth.Frame.TheVariants as frames
 use Rattle.dali_cert_text.specs.declared.growth.Growth.{Growth}
@@ -26,8 +27,8 @@ grown (frames.Outside fixes place lam inside ∷ above) tree = grown above (tree
 
 -- what stands behind a row, if the row may come
 unfoldable pub grow : List Frame → List Fix → Row → Option Growth
-grow above fixes (rows.Fix fix) = if nat_lt (length fixes) 1024 then Some (Open above (fixes ++ fix ∷ [])) else None
+grow above fixes (rows.Fix fix) = if nat_lt (length fixes) most_fixes then Some (Open above (fixes ++ fix ∷ [])) else None
 grow above fixes (rows.Bound lam) = Some (grown above (tree_of fixes (End-F.Bound lam)))
 grow above fixes (rows.Short line) = Some (grown above (tree_of fixes (End-F.Short line)))
-grow above fixes (rows.Branch place lam) = if nat_lt (length above) 1024 then Some (Open (frames.Inside fixes place lam ∷ above) []) else None
+grow above fixes (rows.Branch place lam) = if nat_lt (length above) most_depth then Some (Open (frames.Inside fixes place lam ∷ above) []) else None
 grow above fixes _ = None

@@ -1,5 +1,3 @@
-pub mod Rows
-pub mod Block
 pub mod Fields
 pub mod Reading
 pub mod Rowed
@@ -10,5 +8,7 @@ pub mod StatementLayout
 pub mod Form
 pub mod Stages
 pub mod UnreadLayout
+pub use Rattle.dali_cert_print.specs.Rows
+pub use Rattle.dali_cert_print.specs.Block
 pub use Rattle.dali_tree.specs.Fits
 pub use Rattle.dali_problem.specs.Clearing

@@ -1,8 +1,9 @@
-use Rattle.std.specs.Prelude.{ℕ, ◌*◌, ◌^◌, Bool, true, false, nat_le, Option, Some, None, option_and_then, if◌then◌else◌, List, [], ◌∷◌, length, codes}
+use Rattle.std.specs.Prelude.{ℕ, Bool, true, false, nat_le, Option, Some, None, option_and_then, if◌then◌else◌, List, [], ◌∷◌, length, codes}
+use Rattle.dali_base.specs.Limits.{most_budget, most_balance, most_effects, most_worth, most_bound}
 use Rattle.dali_base.specs.Readers.{same_bytes}
 use Rattle.dali_tree.specs.declared.fix.Fix.TheVariants.{Barred, Needed, Safe}
-use Rattle.dali_cert_text.specs.declared.row.Row.{Row}
-use Rattle.dali_cert_text.specs.declared.row.Row.TheVariants as rows
+use Rattle.dali_cert_print.specs.declared.row.Row.{Row}
+use Rattle.dali_cert_print.specs.declared.row.Row.TheVariants as rows
 use Rattle.dali_cert_text.specs.Fields.{pieces, first_of, alone, number_of, name_of, place_of, places_of, effects_of, multipliers_of}
 
 -- The row that a line's word and fields spell in a problem of so many items and lines.
@@ -13,18 +14,18 @@ block_of fields =
     else if same_bytes f.0 (codes "2") then alone f.1 (rows.Block true) else None) (first_of fields)
 
 unfoldable pub budget_of : List (List ℕ) → Option Row
-budget_of fields = option_and_then (λ b. alone b.1 (rows.Budget b.0)) (number_of 4096 fields)
+budget_of fields = option_and_then (λ b. alone b.1 (rows.Budget b.0)) (number_of most_budget fields)
 
 unfoldable pub line_of : List (List ℕ) → Option Row
 line_of fields =
     option_and_then (λ a. option_and_then (λ s. option_and_then (λ b. alone b.1 (rows.Line (record { account = a.0; asset = s.0; balance = b.0 })))
-    (number_of (10 ^ 18) s.1)) (name_of a.1)) (name_of fields)
+    (number_of most_balance s.1)) (name_of a.1)) (name_of fields)
 
 unfoldable pub item_of : ℕ → List (List ℕ) → Option Row
 item_of lines fields =
     option_and_then (λ i. option_and_then (λ v. if nat_le 1 v.0 then
-    option_and_then (λ es. if nat_le (length es) 32 then Some (rows.Item i.0 v.0 es) else None) (effects_of lines 0 v.1)
-    else None) (number_of (128 * 10 ^ 15) i.1)) (name_of fields)
+    option_and_then (λ es. if nat_le (length es) most_effects then Some (rows.Item i.0 v.0 es) else None) (effects_of lines 0 v.1)
+    else None) (number_of most_worth i.1)) (name_of fields)
 
 unfoldable pub set_of : ℕ → List (List ℕ) → Option Row
 set_of items fields = option_and_then (λ ps. Some (rows.Set ps)) (places_of items 0 fields)
@@ -32,7 +33,7 @@ set_of items fields = option_and_then (λ ps. Some (rows.Set ps)) (places_of ite
 unfoldable pub part_of : ℕ → List (List ℕ) → Option Row
 part_of items fields =
     option_and_then (λ b. option_and_then (λ ps. if nat_le 1 (length ps) then Some (rows.Part b.0 ps) else None) (places_of items 0 b.1))
-    (number_of (16384 * 10 ^ 15) fields)
+    (number_of most_bound fields)
 
 unfoldable pub barred_of : ℕ → ℕ → List (List ℕ) → Option Row
 barred_of items lines fields =

@@ -5,7 +5,7 @@ use Rattle.dali_problem.specs.Limits.{IsProblem}
 use Rattle.dali_tree.specs.declared.fix.Fix.{Fix}
 use Rattle.dali_tree.specs.declared.choice.Part.{Part}
 use Rattle.dali_cert_text.specs.declared.block.Block.{Block}
-use Rattle.dali_cert_text.specs.declared.row.Row.{Row}
+use Rattle.dali_cert_print.specs.declared.row.Row.{Row}
 use Rattle.dali_cert_text.specs.declared.growth.Frame.{Frame}
 use Rattle.dali_cert_text.specs.declared.growth.Growth.{Growth}
 use Rattle.dali_cert_text.specs.declared.growth.Growth.TheVariants.{Open, Grown}

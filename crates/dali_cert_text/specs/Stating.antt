@@ -1,17 +1,18 @@
-use Rattle.std.specs.Prelude.{ℕ, ◌+◌, ◌-◌, ◌*◌, ◌^◌, ◌==◌, Bool, true, false, is_none, ◌&&◌, ◌||◌, nat_lt, nat_le, Option, Some, None, if◌then◌else◌, List, [], ◌∷◌, ◌++◌, length, map, sum_by, slice_index}
+use Rattle.std.specs.Prelude.{ℕ, ◌+◌, ◌-◌, ◌==◌, Bool, true, false, is_none, ◌&&◌, ◌||◌, nat_lt, nat_le, Option, Some, None, if◌then◌else◌, List, [], ◌∷◌, ◌++◌, length, map, sum_by, slice_index}
 use Rattle.std.specs.Ordering.{nat_cmp, is_lt}
 use Rattle.std.specs.Cmp.Lexicographic.{slice_cmp}
 use Rattle.std.specs.declared.cmp.Ordering.{Ordering}
 use Rattle.std.specs.declared.cmp.Ordering.TheVariants.{Less, Equal, Greater}
+use Rattle.dali_base.specs.Limits.{most_lines, most_items, most_worths}
 use Rattle.dali_base.specs.NameList.{place_of}
 use Rattle.dali_problem.specs.declared.row.LineRow.{LineRow}
 use Rattle.dali_problem.specs.declared.row.Effect.{Effect}
 use Rattle.dali_problem.specs.Clearing.{Clearing, line_at}
 use Rattle.dali_tree.specs.declared.choice.Part.{Part}
 use Rattle.dali_tree.specs.Fits.{first_member}
-use Rattle.dali_cert_text.specs.declared.row.Row.{Row}
-use Rattle.dali_cert_text.specs.declared.row.Row.TheVariants as rows
-use Rattle.dali_cert_text.specs.Block.{is_small, is_small_bound}
+use Rattle.dali_cert_print.specs.declared.row.Row.{Row}
+use Rattle.dali_cert_print.specs.declared.row.Row.TheVariants as rows
+use Rattle.dali_cert_print.specs.Block.{is_small, is_small_bound}
 
 -- Which row may come in a block's problem and between its parts, for private functions.
 
@@ -28,7 +29,7 @@ is_before a b = before_by (slice_cmp nat_cmp a.account b.account) (slice_cmp nat
 -- a line may come behind the lines so far
 unfoldable pub may_line : Clearing → LineRow → Bool
 may_line p line =
-    length p.items == 0 && nat_lt (length p.lines) 4096 && (length p.lines == 0 || is_before (line_at p (length p.lines - 1)) line)
+    length p.items == 0 && nat_lt (length p.lines) most_lines && (length p.lines == 0 || is_before (line_at p (length p.lines - 1)) line)
 
 abbrev pub values_of : Clearing → ℕ
 values_of p = sum_by (λ item. item.value) p.items
@@ -39,7 +40,7 @@ ids_of p = map (λ item. item.id) p.items
 -- an item may come behind the items so far
 unfoldable pub may_item : Bool → Clearing → List ℕ → ℕ → List Effect → Bool
 may_item wide p id value effects =
-    nat_lt (length p.items) 1024 && is_none (place_of (ids_of p) id) && nat_le (values_of p + value) (16384 * 10 ^ 15) && (wide || is_small value effects)
+    nat_lt (length p.items) most_items && is_none (place_of (ids_of p) id) && nat_le (values_of p + value) most_worths && (wide || is_small value effects)
 
 abbrev pub with_line : Clearing → LineRow → Clearing
 with_line p line = record { lines = p.lines ++ line ∷ []; items = p.items }

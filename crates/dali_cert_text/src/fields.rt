@@ -3,14 +3,12 @@ ghost use Rattle.std.specs.Option.{option_map};
 ghost use Rattle.dali_cert_text.specs.Fields.{fields_in, alone, number_of, number_below as spelled_below, place_of, number_within as spelled_within, amount_of, effect_of, multiplier_of};
 
 use crate::split::{cut_at_colon, first_field};
+use dali_base::limits::{MOST_EFFECT, MOST_MULTIPLIER};
 use dali_base::read_number;
 use dali_problem::Effect;
 
 /// The greatest size of an effect's amount.
-const MOST_AMOUNT: u64 = 8_000_000_000_000_000;
-
-/// The greatest multiplier.
-const MOST_MULTIPLIER: u64 = 1 << 44;
+const MOST_AMOUNT: u64 = MOST_EFFECT as u64;
 
 /// The value, where nothing stands behind it.
 pub(crate) fn alone<T: Drop>(rest: &[u8], value: T) -> Option<T>

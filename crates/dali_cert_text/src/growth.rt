@@ -4,18 +4,13 @@ ghost use Rattle.dali_cert_text.specs.Growth.{tree_of, grown as grown_to, grow a
 ghost use Rattle.dali_cert_text.specs.Refusal.{Gives};
 
 use crate::refused::Refused;
-use crate::row::Row;
 use crate::stack::Stack;
+use dali_base::limits::{MOST_DEPTH, MOST_FIXES};
 use dali_base::{OutOfMemory, Seq};
+use dali_cert_print::Row;
 use dali_tree::{End, Fixes, Lam, Tree};
 use sqlite_items::Boxed;
 use std::alloc::Global;
-
-/// The most branches on a path of a tree.
-const MOST_DEPTH: usize = 1024;
-
-/// The most fixes of a node.
-const MOST_FIXES: usize = 1024;
 
 /// A branch above the open node, with the branch's own fixes.
 #[derive(Drop)]
@@ -67,7 +62,7 @@ pub(crate) fn grow(
         Row::Short { line } => Ok(grown(alloc, frames, short_node(fixes, line))?),
         Row::Branch { place, lam } => {
             let mut frames = frames;
-            if frames.len() >= MOST_DEPTH {
+            if frames.len() >= MOST_DEPTH as usize {
                 return Err(Refused::Form);
             }
             frames.push(Frame::Inside { fixes, place, lam })?;

@@ -2,7 +2,7 @@ ghost use Rattle.std.specs.Prelude.{◌≡◌, ◌≢◌, ℕ, ◌+◌, ◌<◌,
 ghost use Rattle.dali_problem.specs.Limits.{IsProblem};
 ghost use Rattle.dali_tree.specs.declared.choice.Part.{Part};
 ghost use Rattle.dali_cert_text.specs.declared.block.Block.{Block};
-ghost use Rattle.dali_cert_text.specs.Block.{is_wide as needs_edition_two};
+ghost use Rattle.dali_cert_print.specs.Block.{is_wide as needs_edition_two};
 ghost use Rattle.dali_cert_text.specs.Form.{Spells, IsFormLine};
 ghost use Rattle.dali_cert_text.specs.Stating.{no_lines, edition_row, budget_row, part_row};
 ghost use Rattle.dali_cert_text.specs.Stages.{Setting, Start, Opened, Stated, Parted, Growing, Whole, whole, Goes, Stops};
@@ -10,13 +10,12 @@ ghost use Rattle.dali_cert_text.specs.Refusal.{Gives};
 
 use crate::block::{Block, BlockNo};
 use crate::growth::{Growth, grow};
-use crate::printing::{MOST_SMALL_BOUND, is_wide};
 use crate::refused::Refused;
-use crate::row::Row;
 use crate::stack::Stack;
 use crate::statement::Statement;
 use crate::unread::{Unread, next_row};
 use dali_base::Places;
+use dali_cert_print::{MOST_SMALL_BOUND, Row, is_wide};
 use dali_problem::Problem;
 use dali_tree::{Choice, Fixes, Part, Parts, Tree};
 use std::alloc::Global;

@@ -4,27 +4,13 @@ ghost use Rattle.dali_cert_text.specs.Reading.{block_of, budget_of, line_of, ite
 
 use crate::fields::{alone, number_field, place_field};
 use crate::lists::{read_effects, read_multipliers, read_places};
-use crate::row::Row;
 use crate::split::{cut, first_field, is_word};
+use dali_base::limits::{MOST_BALANCE, MOST_BOUND, MOST_BUDGET, MOST_EFFECTS, MOST_WORTH};
 use dali_base::{OutOfMemory, read_name};
+use dali_cert_print::Row;
 use dali_problem::LineRow;
 use dali_tree::Fix;
 use std::alloc::Global;
-
-/// The greatest budget, in branchings.
-const MOST_BUDGET: u64 = 4096;
-
-/// The greatest balance of a line.
-const MOST_BALANCE: u64 = 1_000_000_000_000_000_000;
-
-/// The greatest value of an item, in centavos times rank.
-const MOST_VALUE: u64 = 128_000_000_000_000_000;
-
-/// The most effects of an item.
-const MOST_EFFECTS: usize = 32;
-
-/// The greatest bound of a part, in centavos times rank.
-const MOST_BOUND: u64 = 16_384_000_000_000_000_000;
 
 /// The row that a line spells in a block of so many items and lines.
 #[tactic(auto, unfolding(crate::specs::Reading::row_of))]
@@ -162,7 +148,7 @@ fn read_item(alloc: Global, fields: &[u8], lines: u32) -> Result<Option<Row>, Ou
     let Some(id) = read_name(id) else {
         return Ok(None);
     };
-    let Some((value, rest)) = number_field(rest, MOST_VALUE) else {
+    let Some((value, rest)) = number_field(rest, MOST_WORTH) else {
         return Ok(None);
     };
     if value < 1 {

@@ -1,29 +1,21 @@
-ghost use Rattle.std.specs.Prelude.{◌≡◌, ◌<◌, ◌≤◌, ◌*◌, ◌^◌, [], length, is_none, true, false, Ok, Err, Some, None, IfOk, OnOk, IsTrue};
+ghost use Rattle.std.specs.Prelude.{◌≡◌, ◌<◌, ◌≤◌, [], length, is_none, true, false, Ok, Err, Some, None, IfOk, OnOk, IsTrue};
+ghost use Rattle.dali_base.specs.Limits.{most_balance, most_worth};
 ghost use Rattle.dali_base.specs.Spelling.{is_name};
 ghost use Rattle.dali_base.specs.NameList.{place_of};
 ghost use Rattle.dali_problem.specs.Limits.{AreEffects, IsProblem};
 ghost use Rattle.dali_problem.specs.Clearing.{Item};
-ghost use Rattle.dali_cert_text.specs.Block.{is_small_item};
+ghost use Rattle.dali_cert_print.specs.Block.{is_small_item};
 ghost use Rattle.dali_cert_text.specs.Stating.{is_before as stands_before, may_line, may_item, no_lines, with_line, with_item, state_row, ids_of};
 ghost use Rattle.dali_cert_text.specs.Rowed.{IsRow};
 
-use crate::printing::is_small;
 use crate::refused::Refused;
-use crate::row::Row;
+use dali_base::limits::{MOST_ITEMS, MOST_LINES, MOST_WORTHS};
 use dali_base::{Name, Names, OutOfMemory, Places, Seq};
+use dali_cert_print::{Row, is_small};
 use dali_problem::{Effect, LineRow, Problem};
 use std::alloc::Global;
 use std::cmp::Ordering;
 use std::marker::Model;
-
-/// The most lines of a problem.
-const MOST_LINES: u32 = 4096;
-
-/// The most items of a problem.
-const MOST_ITEMS: u32 = 1024;
-
-/// The greatest sum of the values of all items, in centavos times rank.
-const MOST_TOTAL: u64 = 16_384_000_000_000_000_000;
 
 /// The problem of a block so far. Contracts see the problem.
 #[derive(Drop)]
@@ -98,7 +90,7 @@ impl Statement {
     }
 
     fn add_line(&mut self, line: LineRow) -> Result<(), Refused>
-        requires { line.balance ≤ 10 ^ 18 }
+        requires { line.balance ≤ most_balance }
         ensures ok { OnOk result ((may_line self.old line ≡ true) × (self.new ≡ with_line self.old line)) }
         ensures form { result ≡ Err Refused.Form → may_line self.old line ≡ false }
     {
@@ -117,7 +109,7 @@ impl Statement {
         effects: &[Effect],
     ) -> Result<(), Refused>
         requires low { 1 ≤ value }
-        requires high { value ≤ 128 * 10 ^ 15 }
+        requires high { value ≤ most_worth }
         requires effects { AreEffects (length self.old.lines) effects.now }
         ensures ok { OnOk result ((may_item wide self.old id value effects.now ≡ true) × (self.new ≡ with_item self.old id value effects.now)) }
         ensures form { result ≡ Err Refused.Form → may_item wide self.old id value effects.now ≡ false }
@@ -134,12 +126,12 @@ impl Statement {
 
     #[tactic(auto, unfolding(crate::specs::Stating::may_item))]
     fn may_item(&self, wide: bool, id: Name, value: u64, effects: &[Effect]) -> bool
-        requires { value ≤ 128 * 10 ^ 15 }
+        requires { value ≤ most_worth }
         ensures { result ≡ may_item wide self.now id value effects.now }
     {
         self.problem.items() < MOST_ITEMS
             && self.is_new(id)
-            && self.total + value <= MOST_TOTAL
+            && self.total + value <= MOST_WORTHS
             && (wide || is_small(value, effects))
     }
 

@@ -4,9 +4,9 @@ ghost use Rattle.dali_cert_text.specs.Rowed.{IsRow};
 ghost use Rattle.dali_cert_text.specs.Stages.{Takes, Lacks};
 
 use crate::block::BlockNo;
-use crate::row::Row;
 use crate::rows::read_row;
 use crate::split::find;
+use dali_cert_print::Row;
 use std::alloc::Global;
 use std::marker::Model;
 

@@ -12,7 +12,7 @@ use Rattle.dali_machine.specs.declared.outcome.Outcome.{Outcome}
 use Rattle.dali_machine.specs.declared.report.CycleMark.{CycleMark}
 use Rattle.dali_machine.specs.declared.report.CycleMark.TheVariants.{Optimal, Unfinished}
 use Rattle.dali_machine.specs.declared.report.CycleReport.{CycleReport}
-use Rattle.dali_cert_text.specs.Block.{block_text}
+use Rattle.dali_cert_print.specs.Block.{block_text}
 use Rattle.dali_machine.specs.declared.outcome.Outcome.TheVariants.{Done, No, Cycle, Queue, Stat, Ledger}
 
 -- A reply is one line or more. Each is a row of text, fields joined by commas and ended by LF: the number k of the

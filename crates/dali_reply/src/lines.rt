@@ -5,6 +5,7 @@ ghost use Rattle.dali_reply.specs.Reply.{ok_line, no_line, end_line, cycle_line,
 use crate::words::{code_word, kind_word, mark_word};
 use dali_account::Pair;
 use dali_base::{Name, OutOfMemory, Text};
+use dali_cert_print::{add_field, add_number, end};
 use dali_ledger::Posting;
 use dali_machine::{Code, CycleReport};
 use dali_statement::WaitRow;
@@ -129,33 +130,10 @@ fn begin(text: &mut Text, number: u64, word: &[u8]) -> Result<(), OutOfMemory>
     add_field(text, word)
 }
 
-/// A comma and a field.
-fn add_field(text: &mut Text, field: &[u8]) -> Result<(), OutOfMemory>
-    ensures { OnOk result (text.new ≡ text.old ++ 44 ∷ field.now) }
-{
-    text.push(b',')?;
-    text.add(field)
-}
-
-/// A comma and a number.
-fn add_number(text: &mut Text, n: u64) -> Result<(), OutOfMemory>
-    ensures { OnOk result (text.new ≡ text.old ++ 44 ∷ decimal n) }
-{
-    text.push(b',')?;
-    text.add_number(n)
-}
-
 /// A comma and a number with its sign.
 fn add_signed(text: &mut Text, n: i64) -> Result<(), OutOfMemory>
     ensures { OnOk result (text.new ≡ text.old ++ 44 ∷ signed_decimal n) }
 {
     text.push(b',')?;
     text.add_signed(n)
-}
-
-/// The LF of a line.
-fn end(text: &mut Text) -> Result<(), OutOfMemory>
-    ensures { OnOk result (text.new ≡ text.old ++ 10 ∷ []) }
-{
-    text.push(b'\n')
 }

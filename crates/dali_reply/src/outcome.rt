@@ -1,7 +1,7 @@
 ghost use Rattle.std.specs.Prelude.{◌≡◌, ◌++◌, IfOk, OnOk};
 ghost use Rattle.std.specs.List.{flat_map};
 ghost use Rattle.dali_reply.specs.Reply.{cycle_line, post_line, end_line, wait_line, balance_line, held_line, posting_line, reply_text};
-ghost use Rattle.dali_cert_text.specs.Block.{block_text};
+ghost use Rattle.dali_cert_print.specs.Block.{block_text};
 ghost use Rattle.dali_machine.specs.Cycles.{IsTrueReport};
 ghost use Rattle.dali_machine.specs.Outcomes.{IsReported};
 
@@ -10,7 +10,7 @@ use crate::lines::{
 };
 use dali_account::Pair;
 use dali_base::{Name, OutOfMemory, Text};
-use dali_cert_text::print_block;
+use dali_cert_print::print_block;
 use dali_ledger::Posting;
 use dali_machine::{CycleReport, Outcome};
 use dali_statement::WaitRow;

@@ -1,0 +1,5 @@
+pub mod Limits
+pub mod Rows
+pub mod Block
+pub use Rattle.dali_tree.specs.Fits
+pub use Rattle.dali_problem.specs.Clearing

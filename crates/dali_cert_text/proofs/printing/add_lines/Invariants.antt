@@ -1,8 +1,0 @@
-use Rattle.std.proofs.Common.{◌≡◌, ◌++◌, take}
-use Rattle.std.specs.List.{flat_map}
-use Rattle.dali_cert_text.specs.declared.row.Row.TheVariants as rows
-use Rattle.dali_cert_text.specs.Rows.{row_text}
-use Rattle.dali_cert_text.proofs.printing.add_lines.Given as goal
-
-abbrev pub invariant-loop-at : goal.invariant-loop-at
-invariant-loop-at l = l.text ≡ l.initial.text ++ flat_map (λ x. row_text (rows.Line x)) (take l.at l.problem.lines)

@@ -1,6 +1,0 @@
-use Rattle.dali_cert_text.specs.Rows.{effect_field}
-use Rattle.dali_cert_text.proofs.Printed.{commas_told}
-use Rattle.dali_cert_text.proofs.writing.add_effects.Goals as goal
-
-pub returns : goal.returns
-returns c = commas_told effect_field c.args.effects.now c.loop-effect.effect-index c.loop-effect.text c.args.text.now (c.loop-effect-test.false) c.loop-effect.invariant

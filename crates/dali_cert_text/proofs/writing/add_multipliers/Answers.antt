@@ -1,6 +1,0 @@
-use Rattle.dali_cert_text.specs.Rows.{multiplier_field}
-use Rattle.dali_cert_text.proofs.Printed.{commas_told}
-use Rattle.dali_cert_text.proofs.writing.add_multipliers.Goals as goal
-
-pub returns : goal.returns
-returns c = commas_told multiplier_field c.args.lam.now c.loop-multiplier.multiplier-index c.loop-multiplier.text c.args.text.now (c.loop-multiplier-test.false) c.loop-multiplier.invariant

@@ -1,6 +1,0 @@
-use Rattle.std.specs.Prelude.{decimal}
-use Rattle.dali_cert_text.proofs.Printed.{commas_told}
-use Rattle.dali_cert_text.proofs.writing.add_places.Goals as goal
-
-pub returns : goal.returns
-returns c = commas_told decimal c.args.places.now c.loop-place.place-index c.loop-place.text c.args.text.now (c.loop-place-test.false) c.loop-place.invariant
