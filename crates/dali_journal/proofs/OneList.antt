@@ -14,7 +14,7 @@ marks_one (suc j) zero (b ∷ marks) first second = absurd (first.0 (ap (λ xs. 
 marks_one (suc j) (suc k) [] first second = absurd first
 marks_one (suc j) (suc k) (b ∷ marks) first second = ap suc (marks_one j k marks first.1 second.1)
 
-header_one : (e f : ℕ) (header : List ℕ) → IsHeader e header → IsHeader f header → e ≡ f
+pub header_one : (e f : ℕ) (header : List ℕ) → IsHeader e header → IsHeader f header → e ≡ f
 header_one e f header first second =
     let behind : first.marks ++ 1 ∷ [] ≡ second.marks ++ 1 ∷ [] = ap (λ xs. drop 12 xs) (sym first.whole ∙ second.whole) in
     let marks : first.marks ≡ second.marks = sym (take_at first.marks (1 ∷ []) 3 first.three) ∙ ap (λ xs. take 3 xs) behind ∙ take_at second.marks (1 ∷ []) 3 second.three in
@@ -22,7 +22,7 @@ header_one e f header first second =
     omega (arith, first.edition_is, second.edition_is, j)
 
 -- two records that begin one list of bytes are of one payload
-payload_one : (g h : ℕ) (p q xs ys : List ℕ) → length p < 2 ^ 32 → length q < 2 ^ 32 → gated g p ++ xs ≡ gated h q ++ ys → (p ≡ q) × (xs ≡ ys)
+pub payload_one : (g h : ℕ) (p q xs ys : List ℕ) → length p < 2 ^ 32 → length q < 2 ^ 32 → gated g p ++ xs ≡ gated h q ++ ys → (p ≡ q) × (xs ≡ ys)
 payload_one g h p q xs ys p_short q_short is =
     let bp = to_be_bytes w32 (length p) in
     let bq = to_be_bytes w32 (length q) in

@@ -22,7 +22,7 @@ mod sealed;
 pub use formatting::format;
 pub use group::Group;
 pub use journal::Journal;
-pub use limits::MOST_PAYLOAD;
+pub use limits::{MOST_PAYLOAD, MOST_PAYLOADS};
 pub use open::open_journal;
 pub use refusal::{AppendNo, Damage, DiskFault, OpenNo};
 pub use sealed::{Sealed, frame};

@@ -1,0 +1,9 @@
+pub mod Spells
+pub mod Damaged
+pub mod Recovers
+pub mod Taking
+pub use Rattle.dali_machine.specs.History
+pub use Rattle.dali_journal.specs.Holds
+pub use Rattle.dali_journal.specs.Appends
+pub use Rattle.dali_journal.specs.JournalAt
+pub use Rattle.dali_record.specs.IsRecord
