@@ -1,0 +1,12 @@
+pub mod Texts
+pub mod Fronts
+pub mod Putting
+pub mod Keeping
+pub mod Flushing
+pub mod Holding
+pub mod Spending
+pub mod Ending
+pub mod Cycling
+pub mod Replies
+pub mod Sized
+pub mod Choosing

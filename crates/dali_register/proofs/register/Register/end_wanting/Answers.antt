@@ -1,0 +1,17 @@
+use Rattle.std.proofs.Common.{◌≡◌, ◌∙◌, ◌++◌, refl, sym, ap, subst}
+use Rattle.dali_register.specs.Taking.{Took}
+use Rattle.dali_register.proofs.Ending.{took_none, took_wanting, err_is}
+use Rattle.dali_register.proofs.register.Register.end_wanting.Goals as goal
+
+pub returns-in_err-flush-clause-took : goal.returns-in_err-flush-clause-took
+returns-in_err-flush-clause-took g c before found added held line far =
+    let told = g.T.Site.tells in
+    let old = g.T.Site.sight c.args.site.now in
+    let new = g.T.Site.sight c.flush.new.site in
+    subst (Took told before found (added ++ held) line c.flush.new.self old new) (sym (err_is c.from_residual.result c.in_err-flush.field-0.0 c.from_residual.ensures.1))
+    (took_none told before found added held line c.flush.new.self old new c.in_err-flush.field-0.0 far.spends c.in_err-flush.ensures.syncs (c.in_err-flush.ensures.flushed before found added held far.stands))
+
+pub returns-clause-took : goal.returns-clause-took
+returns-clause-took g c before found added held line far =
+    took_wanting g.T.Site.tells before found added held line c.flush.new.self (g.T.Site.sight c.args.site.now) (g.T.Site.sight c.flush.new.site) far.spends c.in_ok-flush.ensures.syncs
+    (c.in_ok-flush.ensures.flushed before found added held far.stands)
