@@ -1,11 +1,14 @@
 use Rattle.std.proofs.Common.{◌≡◌, ℕ, length, Option, Some, None, sym, ap, ◌∙◌, subst}
-use Rattle.std.specs.Prelude.{unwrap_or}
+use Rattle.std.specs.Prelude.{unwrap_or, map}
 use Rattle.std.specs.Option.{option_map}
 use Rattle.dali_check.specs.Allowed.{Allowed}
 use Rattle.dali_problem.specs.Clearing.{Clearing}
 use Rattle.dali_queue.specs.declared.cycle.CycleInput.{CycleInput}
 use Rattle.dali_tree.specs.declared.choice.Choice.{Choice}
+use Rattle.dali_tree.specs.declared.choice.Part.{Part}
 use Rattle.dali_tree.specs.Fits.{Fits}
+use Rattle.dali_parts.specs.Finest.{AreFinest}
+use Rattle.dali_desk.specs.FinestDay.{HasFinest}
 use Rattle.dali_machine.specs.Cycles.{HasChoice, IsChoiceFor, accepted_cycle, input_at, problem_at}
 use Rattle.dali_machine.specs.History.{HasItsChoice}
 use Rattle.dali_machine.specs.Machine.{Machine}
@@ -24,3 +27,14 @@ has_choice m j cycle choice found fits allowed = by (accepted_cycle j) found
         let problem : cycle.0.problem ≡ problem_at m c.0 = ap (λ (o : Option (CycleInput × ℕ)). (unwrap_or o cycle).0.problem) e ∙ input_problem m c.0 in
         let budget : cycle.1 ≡ c.1 = ap (λ (o : Option (CycleInput × ℕ)). (unwrap_or o cycle).1) e in
         subst (λ b. IsChoiceFor (problem_at m c.0) b choice) budget (subst (λ (p : Clearing). IsChoiceFor p cycle.1 choice) problem mine)
+
+-- and where its parts are the finest of that problem, it has the finest parts
+pub has_finest : (m : Machine) (j : Judged) (cycle : CycleInput × ℕ) (choice : Choice) → Some cycle ≡ option_map (λ (c : ℕ × ℕ). (input_at m c.0, c.1)) (accepted_cycle j) →
+    AreFinest cycle.0.problem (map (λ (part : Part). part.members) choice.parts) → HasFinest m (Some choice) (accepted_cycle j)
+has_finest m j cycle choice found finest = by (accepted_cycle j) found
+  where
+    by : (o : Option (ℕ × ℕ)) → Some cycle ≡ option_map (λ (c : ℕ × ℕ). (input_at m c.0, c.1)) o → HasFinest m (Some choice) o
+    by None e = absurd (cc)
+    by (Some c) e =
+        let problem : cycle.0.problem ≡ problem_at m c.0 = ap (λ (o : Option (CycleInput × ℕ)). (unwrap_or o cycle).0.problem) e ∙ input_problem m c.0 in
+        subst (λ (p : Clearing). AreFinest p (map (λ (part : Part). part.members) choice.parts)) problem finest

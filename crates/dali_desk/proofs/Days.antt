@@ -1,21 +1,24 @@
-use Rattle.std.proofs.Common.{◌≡◌, ◌∙◌, ℕ, zero, suc, ◌+◌, ◌-◌, ◌≤◌, ◌<◌, ◌⊎◌, inl, inr, Bool, true, false, List, [], ◌∷◌, ◌++◌, length, drop, map, refl, sym, ap, subst, arith, append_assoc, append-nil, length-append}
-use Rattle.std.specs.Prelude.{IsTrue, slice_index_or, Option, Some, None}
-use Rattle.std.specs.List.{All, AllPairs, AllByRecursion}
+use Rattle.std.proofs.Common.{◌≡◌, ◌∙◌, ℕ, zero, suc, ◌-◌, ◌≤◌, ◌⊎◌, inl, inr, Bool, List, [], ◌∷◌, ◌++◌, length, drop, refl, sym, ap, subst, arith, append_assoc, append-nil, length-append}
+use Rattle.std.specs.Prelude.{IsTrue}
+use Rattle.std.specs.List.{All, AllByRecursion}
 use Rattle.std.proofs.lemmas.List.{map-append}
 use Rattle.std.proofs.lemmas.List.Elements.{All-head, All-tail, recursion_from_All}
-use Rattle.dali_outside.specs.Outside.{Feed, Sight, Rose, Goes, SameDisk}
+use Rattle.dali_outside.specs.Outside.{Feed, Sight, Rose}
 use Rattle.dali_outside.specs.Stops.{LeavesOnly}
 use Rattle.dali_line.specs.Line.{MOST_OF_COMMAND}
 use Rattle.dali_line.specs.Commands.{commands}
 use Rattle.dali_line.specs.Lines.{FirstIsLong, MOST_OF_FILE}
 use Rattle.dali_machine.specs.Machine.{Machine, opening}
 use Rattle.dali_machine.specs.EntryRecord.{EntryRecord}
-use Rattle.dali_machine.specs.History.{IsNext, AreNext, IsLegal, after_entry, state_after}
+use Rattle.dali_machine.specs.History.{IsNext, AreNext, after_entry, state_after}
 use Rattle.dali_desk.specs.declared.status.Status.{Status}
-use Rattle.dali_desk.specs.declared.status.Status.TheVariants.{Done, Usage, ReadFault, PrintFault, DiskFault, LongLine, LongFile, OutOfMemory}
+use Rattle.dali_desk.specs.declared.status.Status.TheVariants.{Done, Invalid, Usage, ReadFault, PrintFault, DiskFault, LongLine, LongFile, OutOfMemory}
 use Rattle.dali_desk.specs.TextOf.{answer_to, texts, text_of, lines_of}
 use Rattle.dali_desk.specs.DayRun.{EndsDay, TakesDay, PrintsDay, LeavesDay, DayRun}
 use Rattle.dali_desk.specs.DaySoFar.{Quiet}
+use Rattle.dali_desk.specs.FinestDay.{HasFinest, HaveFinest, AreFinestNext}
+use Rattle.dali_machine.specs.Cycles.{accepted_cycle}
+use Rattle.dali_machine.specs.Step.{judged}
 use Rattle.dali_desk.proofs.Printing.{goes_on, goes_nowhere}
 
 -- the text and the state of one more entry
@@ -44,6 +47,12 @@ last_low last (e ∷ entries) low all = last_low e.edition entries (let first = 
 pub next_more : (m : Machine) (last : ℕ) (entries : List EntryRecord) (e : EntryRecord) → AreNext m last entries → IsNext (state_after m entries) (last_edition last entries) e → AreNext m last (entries ++ e ∷ [])
 next_more m last [] e are next = (next, tt)
 next_more m last (x ∷ entries) e are next = (are.0, next_more (after_entry m x) x.edition entries e are.1 next)
+
+-- and its choice has the finest parts
+pub finest_more : (m : Machine) (entries : List EntryRecord) (e : EntryRecord) → HaveFinest m entries →
+    HasFinest (state_after m entries) e.choice (accepted_cycle (judged e.edition (state_after m entries) e.line)) → HaveFinest m (entries ++ e ∷ [])
+finest_more m [] e have has = (has, tt)
+finest_more m (x ∷ entries) e have has = (have.0, finest_more (after_entry m x) entries e have.1 has)
 
 pub quiet_start : (told : Bool) (s : Sight) → Quiet told s s
 quiet_start told s = record { goes = goes_nowhere s; disk = λ t. record { bytes = refl; loose = refl }; syncs = omega arith }
@@ -79,7 +88,7 @@ not_past old new lines takes small =
 -- How a day ended. That it is done where nothing stands in the way follows from the rest.
 pub ended : (source_tells site_tells : Bool) (old new : Feed) (before after : Sight) (status : Status) → EndsDay status → (status ≡ ReadFault → Rose old.faults new.faults) →
     (status ≡ PrintFault → Rose before.print_faults after.print_faults) → old.faults ≤ new.faults → Quiet site_tells before after → (history : List EntryRecord) →
-    All (λ (e : EntryRecord). e.edition ≡ 1) history → AreNext opening 0 history → (IsTrue source_tells → TakesDay old new (lines_of history) status) → (IsTrue site_tells → PrintsDay status (text_of history) before after) →
+    All (λ (e : EntryRecord). e.edition ≡ 1) history → AreFinestNext history → (IsTrue source_tells → TakesDay old new (lines_of history) status) → (IsTrue site_tells → PrintsDay status (text_of history) before after) →
     (IsTrue site_tells → LeavesOnly (LeavesDay before (text_of history)) before after) →
     DayRun source_tells site_tells old new before after status
 ended source_tells site_tells old new before after status ends read_fault print_fault faults quiet history editions legal input text stops = record {
@@ -90,7 +99,8 @@ ended source_tells site_tells old new before after status ends read_fault print_
   goes = quiet.goes;
   history = history;
   editions = editions;
-  legal = record { entries = legal };
+  legal = record { entries = legal.legal };
+  finest = legal.finest;
   input = input;
   text = text;
   stops = stops;
@@ -98,6 +108,7 @@ ended source_tells site_tells old new before after status ends read_fault print_
   syncs = quiet.syncs;
   complete = λ t small short no_read no_print. (elim status as (λ s. EndsDay s → (s ≡ ReadFault → Rose old.faults new.faults) → (s ≡ PrintFault → Rose before.print_faults after.print_faults) → TakesDay old new (lines_of history) s → (s ≡ Done) ⊎ (s ≡ OutOfMemory)) [
     | Done ↦ λ _ _ _ _. inl refl
+    | Invalid why ↦ λ e _ _ _. absurd e
     | Usage ↦ λ e _ _ _. absurd e
     | ReadFault ↦ λ _ rose _ _. absurd (no_read (rose refl))
     | PrintFault ↦ λ _ _ rose _. absurd (no_print (rose refl))

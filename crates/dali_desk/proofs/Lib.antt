@@ -7,3 +7,5 @@ pub mod Endings
 pub mod Days
 pub mod SoFar
 pub mod Choosing
+pub mod Gathering
+pub mod Checking

@@ -1,36 +1,38 @@
-use Rattle.std.proofs.Common.{◌≡◌, ◌∙◌, ℕ, ◌+◌, ◌≤◌, Bool, true, false, List, [], ◌∷◌, ◌++◌, length, refl, sym, ap, subst, arith, append_assoc, append-nil}
-use Rattle.std.specs.Prelude.{IsTrue, Result, Ok, Err, Option, Some, None, OnOk, IfErr}
+use Rattle.std.proofs.Common.{◌≡◌, ◌∙◌, ℕ, ◌+◌, ◌≤◌, Bool, true, false, List, [], ◌∷◌, ◌++◌, refl, sym, ap, subst, arith, append_assoc, append-nil}
+use Rattle.std.specs.Prelude.{IsTrue, Result, Ok, Err, Option, None, OnOk, IfErr}
 use Rattle.std.specs.List.{All}
 use Rattle.std.proofs.lemmas.List.Elements.{All-push, All-nil}
 use Rattle.dali_outside.specs.Outside.{Feed, Sight, Rose}
 use Rattle.dali_outside.specs.Stops.{LeavesOnly}
 use Rattle.dali_line.specs.Line.{is_line}
 use Rattle.dali_line.specs.Commands.{commands}
-use Rattle.dali_line.specs.Lines.{Reader, Gives, Ends, Stops, MOST_OF_FILE, reached}
+use Rattle.dali_line.specs.Lines.{Reader, Gives, Ends, Stops, reached}
 use Rattle.dali_line.specs.declared.line_end.LineEnd.{LineEnd}
 use Rattle.dali_line.specs.declared.line_end.LineEnd.TheVariants as ends
 use Rattle.dali_machine.specs.Machine.{Machine, opening}
 use Rattle.dali_tree.specs.declared.choice.Choice.{Choice}
 use Rattle.dali_machine.specs.EntryRecord.{EntryRecord}
 use Rattle.dali_machine.specs.Step.{judged}
-use Rattle.dali_machine.specs.History.{HasItsChoice, IsNext, AreNext, after_entry, state_of}
+use Rattle.dali_machine.specs.Cycles.{accepted_cycle}
+use Rattle.dali_machine.specs.History.{HasItsChoice, AreNext, after_entry, state_of}
+use Rattle.dali_desk.specs.FinestDay.{HasFinest, HasFinestChoice, AreFinestNext}
 use Rattle.dali_desk.specs.declared.status.Status.{Status}
-use Rattle.dali_desk.specs.declared.status.Status.TheVariants.{Done, Usage, ReadFault, PrintFault, DiskFault, LongLine, LongFile, OutOfMemory}
+use Rattle.dali_desk.specs.declared.status.Status.TheVariants.{Done, Invalid, Usage, ReadFault, PrintFault, DiskFault, LongLine, LongFile, OutOfMemory}
 use Rattle.dali_desk.specs.TextOf.{answer_to, text_of, lines_of, first_entry}
-use Rattle.dali_desk.specs.DayRun.{TakenAt, TakesDay, PrintsDay, PrintsFront, LeavesDay, DayRun}
+use Rattle.dali_desk.specs.DayRun.{TakenAt, PrintsFront, LeavesDay, DayRun}
 use Rattle.dali_desk.specs.DaySoFar.{Reads, Quiet, DaySoFar, TakesCommand, PrintsInPart, Answers, status_of_end}
 use Rattle.dali_desk.proofs.Printing.{front_behind}
 use Rattle.dali_desk.proofs.Stopping.{stops_start, stops_more}
 use Rattle.dali_desk.proofs.ReadingOn.{reads_start, reads_line, reads_first, reads_within, without_last, all_read, all_over, moves_on}
 use Rattle.dali_desk.proofs.Endings.{all_short, broken_off, past_limit, found_long, wants_memory}
-use Rattle.dali_desk.proofs.Days.{texts_more, state_more, lines_more, last_edition, last_low, next_more, quiet_start, quiet_on, ended}
+use Rattle.dali_desk.proofs.Days.{texts_more, state_more, lines_more, last_edition, last_low, next_more, finest_more, quiet_start, quiet_on, ended}
 
 pub day_start : (s t : Bool) (feed : Feed) (sight : Sight) (reader : Reader) (machine : Machine) → reader ≡ record { pending = []; taken = 0; given = 0; over = false } → machine ≡ opening → DaySoFar s t feed sight reader machine feed sight
 day_start s t feed sight reader machine new first = subst (λ r. DaySoFar s t feed sight r machine feed sight) (sym new) (subst (λ m. DaySoFar s t feed sight (record { pending = []; taken = 0; given = 0; over = false }) m feed sight) (sym first) (record {
   history = [];
   are = All-nil (λ line. IsTrue (is_line line));
   editions = All-nil (λ (e : EntryRecord). e.edition ≡ 1);
-  legal = tt;
+  legal = record { legal = tt; finest = tt };
   reads = reads_start s feed;
   faults = omega arith;
   state = refl;
@@ -59,12 +61,16 @@ module _ (s t : Bool) (old : Feed) (before : Sight) (reader : Reader) (machine :
   more_editions : All (λ (e : EntryRecord). e.edition ≡ 1) (day.history ++ first_entry line choice ∷ [])
   more_editions = All-push (λ (e : EntryRecord). e.edition ≡ 1) day.history (first_entry line choice) day.editions refl
 
-  more_legal : IsTrue (is_line line) → HasItsChoice machine (judged 1 machine line) choice → AreNext opening 0 (day.history ++ first_entry line choice ∷ [])
-  more_legal is has = next_more opening 0 day.history (first_entry line choice) day.legal (record {
-    line = is;
-    edition = last_low 0 day.history (omega arith) day.editions;
-    choice = subst (λ m. HasItsChoice m (judged 1 m line) choice) day.state has;
-  })
+  more_legal : IsTrue (is_line line) → HasFinestChoice machine (judged 1 machine line) choice → AreFinestNext (day.history ++ first_entry line choice ∷ [])
+  more_legal is has = record {
+    legal = next_more opening 0 day.history (first_entry line choice) day.legal.legal (record {
+      line = is;
+      edition = last_low 0 day.history (omega arith) day.editions;
+      choice = subst (λ m. HasItsChoice m (judged 1 m line) choice) day.state has.has;
+    });
+    finest = finest_more opening day.history (first_entry line choice) day.legal.finest
+        (subst (λ m. HasFinest m choice (accepted_cycle (judged 1 m line))) day.state has.finest);
+  }
 
 -- one more command was taken
 pub day_more : (s t : Bool) (old : Feed) (before : Sight) (reader new : Reader) (machine next : Machine) (feed after : Feed) (sight then : Sight) (line : List ℕ) →
@@ -190,7 +196,7 @@ day_unprinted s t old before reader new machine feed after sight then line day r
 -- no memory for the reader of lines
 pub day_unopened : (s t : Bool) (feed : Feed) (sight : Sight) → DayRun s t feed feed sight sight OutOfMemory
 day_unopened s t feed sight =
-    ended s t feed feed sight sight OutOfMemory tt (λ is. absurd (Prim.cc)) (λ is. absurd (Prim.cc)) (omega arith) (quiet_start t sight) [] (All-nil (λ (e : EntryRecord). e.edition ≡ 1)) tt
+    ended s t feed feed sight sight OutOfMemory tt (λ is. absurd (Prim.cc)) (λ is. absurd (Prim.cc)) (omega arith) (quiet_start t sight) [] (All-nil (λ (e : EntryRecord). e.edition ≡ 1)) (record { legal = tt; finest = tt })
     (λ told. record { taken = []; moved = refl; first = record { rest = commands feed.left; parts = refl }; at = record { limit = omega arith; first = record { rest = []; parts = refl } } })
     (λ told. sym (append-nil sight.printed)) (λ told. stops_start sight [])
 
@@ -216,6 +222,7 @@ ends_day s t old before reader new machine next feed after sight then line (Err 
 ends_day s t old before reader new machine next feed after sight then line (Err OutOfMemory) running gives faults is answers day =
     day_wants s t old before reader new machine feed after sight then line day running gives faults answers.came
 ends_day s t old before reader new machine next feed after sight then line (Err Done) running gives faults is answers day = absurd answers.came
+ends_day s t old before reader new machine next feed after sight then line (Err (Invalid why)) running gives faults is answers day = absurd answers.came
 ends_day s t old before reader new machine next feed after sight then line (Err Usage) running gives faults is answers day = absurd answers.came
 ends_day s t old before reader new machine next feed after sight then line (Err ReadFault) running gives faults is answers day = absurd answers.came
 ends_day s t old before reader new machine next feed after sight then line (Err DiskFault) running gives faults is answers day = absurd answers.came

@@ -1,4 +1,4 @@
-use Rattle.std.specs.Prelude.{◌≡◌, ℕ, ◌+◌, ◌-◌, ◌<◌, ◌≤◌, ◌⊎◌, Bool, IsTrue, List, [], ◌∷◌, ◌++◌, length, drop}
+use Rattle.std.specs.Prelude.{◌≡◌, ℕ, ◌+◌, ◌-◌, ◌≤◌, ◌⊎◌, Bool, IsTrue, List, [], ◌∷◌, ◌++◌, length, drop}
 use Rattle.std.specs.List.{All}
 use Rattle.dali_outside.specs.Outside.{Feed, Sight, Rose, Goes, SameDisk}
 use Rattle.dali_outside.specs.Stops.{IsImage, LeavesOnly}
@@ -7,9 +7,11 @@ use Rattle.dali_line.specs.Line.{MOST_OF_COMMAND}
 use Rattle.dali_line.specs.Lines.{FirstIsLong, MOST_OF_FILE}
 use Rattle.dali_machine.specs.EntryRecord.{EntryRecord}
 use Rattle.dali_machine.specs.History.{IsLegal}
+use Rattle.dali_machine.specs.Machine.{opening}
+use Rattle.dali_desk.specs.FinestDay.{HaveFinest}
 use Rattle.dali_desk.specs.TextOf.{lines_of, text_of}
 use Rattle.dali_desk.specs.declared.status.Status.{Status}
-use Rattle.dali_desk.specs.declared.status.Status.TheVariants.{Done, Usage, ReadFault, PrintFault, DiskFault, LongLine, LongFile, OutOfMemory}
+use Rattle.dali_desk.specs.declared.status.Status.TheVariants.{Done, Invalid, Usage, ReadFault, PrintFault, DiskFault, LongLine, LongFile, OutOfMemory}
 
 -- this list is a front of the whole one
 pub record IsFront {X : Type 0} (front whole : List X) : Type 0 where
@@ -33,6 +35,7 @@ pub record LeavesDay (old : Sight) (text image left : List ℕ) : Type 0 where
 -- the statuses of a `day` that doesn't open its journal
 abbrev pub EndsDay : Status → Type 0
 EndsDay Done = Unit {0}
+EndsDay (Invalid why) = ⊥
 EndsDay Usage = ⊥
 EndsDay ReadFault = Unit {0}
 EndsDay PrintFault = Unit {0}
@@ -97,6 +100,7 @@ pub record StopsWithin (taken : List ℕ) (lines : List (List ℕ)) : Type 0 whe
 -- which lines were taken when the status came, and what of the input had been taken then
 abbrev pub TakenAt : Status → List ℕ → List ℕ → List (List ℕ) → Type 0
 TakenAt Done taken left lines = ReadsAll taken left lines
+TakenAt (Invalid why) taken left lines = ⊥
 TakenAt Usage taken left lines = ⊥
 TakenAt ReadFault taken left lines = BreaksAfter taken lines
 TakenAt PrintFault taken left lines = StopsWithin taken lines
@@ -115,6 +119,7 @@ pub record TakesDay (old new : Feed) (lines : List (List ℕ)) (status : Status)
 -- what was printed when the status came: the whole text of the history, and after a print fault a front of it
 abbrev pub PrintsDay : Status → List ℕ → Sight → Sight → Type 0
 PrintsDay Done text old new = new.printed ≡ old.printed ++ text
+PrintsDay (Invalid why) text old new = ⊥
 PrintsDay Usage text old new = ⊥
 PrintsDay ReadFault text old new = new.printed ≡ old.printed ++ text
 PrintsDay PrintFault text old new = PrintsFront text old new
@@ -124,7 +129,7 @@ PrintsDay LongFile text old new = new.printed ≡ old.printed ++ text
 PrintsDay OutOfMemory text old new = new.printed ≡ old.printed ++ text
 
 -- What a run of `day` does that doesn't open its journal: it takes its lines as a legal history of edition 1, whose cycles
--- have allowed choices, and prints the history's text.
+-- have allowed choices with the finest parts, and prints the history's text.
 pub record DayRun (source_tells site_tells : Bool) (old new : Feed) (before after : Sight) (status : Status) : Type 0 where
   pub statuses : EndsDay status
   -- a fault comes only where its count rose
@@ -136,6 +141,8 @@ pub record DayRun (source_tells site_tells : Bool) (old new : Feed) (before afte
   pub history : List EntryRecord
   pub editions : All (λ (e : EntryRecord). e.edition ≡ 1) history
   pub legal : IsLegal history
+  -- each choice has as parts exactly the finest ones
+  pub finest : HaveFinest opening history
   pub input : IsTrue source_tells → TakesDay old new (lines_of history) status
   pub text : IsTrue site_tells → PrintsDay status (text_of history) before after
   -- at every moment since the start a stop leaves a disk that it might have left at the start, and a front of the text

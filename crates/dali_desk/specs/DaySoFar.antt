@@ -9,9 +9,10 @@ use Rattle.dali_line.specs.declared.line_end.LineEnd.{LineEnd}
 use Rattle.dali_line.specs.declared.line_end.LineEnd.TheVariants as ends
 use Rattle.dali_tree.specs.declared.choice.Choice.{Choice}
 use Rattle.dali_machine.specs.EntryRecord.{EntryRecord}
-use Rattle.dali_machine.specs.Machine.{Machine, opening}
+use Rattle.dali_machine.specs.Machine.{Machine}
 use Rattle.dali_machine.specs.Step.{judged}
-use Rattle.dali_machine.specs.History.{HasItsChoice, AreNext, after_entry, state_of}
+use Rattle.dali_machine.specs.History.{after_entry, state_of}
+use Rattle.dali_desk.specs.FinestDay.{HasFinestChoice, AreFinestNext}
 use Rattle.dali_desk.specs.TextOf.{answer_to, text_of, lines_of, first_entry}
 use Rattle.dali_desk.specs.DayRun.{PrintsFront, LeavesDay}
 use Rattle.dali_desk.specs.declared.status.Status.{Status}
@@ -53,7 +54,7 @@ pub record DaySoFar (source_tells site_tells : Bool) (old : Feed) (before : Sigh
   pub history : List EntryRecord
   pub are : All (λ line. IsTrue (is_line line)) (lines_of history)
   pub editions : All (λ (e : EntryRecord). e.edition ≡ 1) history
-  pub legal : AreNext opening 0 history
+  pub legal : AreFinestNext history
   pub reads : Reads source_tells old (lines_of history) reader feed
   pub faults : old.faults ≤ feed.faults
   pub state : machine ≡ state_of history
@@ -65,7 +66,7 @@ pub record DaySoFar (source_tells site_tells : Bool) (old : Feed) (before : Sigh
 -- a line was taken with its choice, where it is a cycle, and its reply printed
 pub record TakesCommand (told : Bool) (line : List ℕ) (old new : Machine) (before after : Sight) : Type 0 where
   pub choice : Option Choice
-  pub has : HasItsChoice old (judged 1 old line) choice
+  pub has : HasFinestChoice old (judged 1 old line) choice
   pub next : new ≡ after_entry old (first_entry line choice)
   pub commands : new.commands ≡ old.commands + 1
   pub printed : IsTrue told → after.printed ≡ before.printed ++ answer_to old (first_entry line choice)
@@ -74,7 +75,7 @@ pub record TakesCommand (told : Bool) (line : List ℕ) (old new : Machine) (bef
 -- a line was taken with its choice, and a front of its reply printed
 pub record PrintsInPart (told : Bool) (line : List ℕ) (old : Machine) (before after : Sight) : Type 0 where
   pub choice : Option Choice
-  pub has : HasItsChoice old (judged 1 old line) choice
+  pub has : HasFinestChoice old (judged 1 old line) choice
   pub front : IsTrue told → PrintsFront (answer_to old (first_entry line choice)) before after
   pub rose : Rose before.print_faults after.print_faults
   pub stops : IsTrue told → LeavesOnly (LeavesDay before (answer_to old (first_entry line choice))) before after

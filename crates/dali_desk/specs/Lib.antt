@@ -1,9 +1,14 @@
+pub mod Limits
 pub mod Words
 pub mod StatusLine
 pub mod TextOf
+pub mod FinestDay
 pub mod DayRun
 pub mod DaySoFar
 pub mod InitRun
+pub mod Input
+pub mod CheckRun
+pub mod Judging
 pub use Rattle.dali_line.specs.Commands
 pub use Rattle.dali_line.specs.Line
 pub use Rattle.dali_line.specs.Lines
@@ -14,3 +19,5 @@ pub use Rattle.dali_outside.specs.Outside
 pub use Rattle.dali_outside.specs.Stops
 pub use Rattle.dali_journal.specs.Holds
 pub use Rattle.dali_journal.specs.Appends
+pub use Rattle.dali_verdict.specs.Verdict
+pub use Rattle.dali_verdict.specs.VerdictLine

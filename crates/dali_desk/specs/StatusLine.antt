@@ -1,10 +1,11 @@
 use Rattle.std.specs.Prelude.{ℕ, List, [], ◌++◌, codes, decimal}
 use Rattle.dali_desk.specs.declared.status.Status.{Status}
-use Rattle.dali_desk.specs.declared.status.Status.TheVariants.{Done, Usage, ReadFault, PrintFault, DiskFault, LongLine, LongFile, OutOfMemory}
+use Rattle.dali_desk.specs.declared.status.Status.TheVariants.{Done, Invalid, Usage, ReadFault, PrintFault, DiskFault, LongLine, LongFile, OutOfMemory}
 
 -- the words of a status's line
 abbrev pub words_of : Status → List ℕ
 words_of Done = []
+words_of (Invalid why) = codes "dali: invalid"
 words_of Usage = codes "dali: usage: init JOURNAL SIZE, day JOURNAL, check, export JOURNAL, gen N, trial N, raise JOURNAL, gate JOURNAL, ship JOURNAL, follow JOURNAL"
 words_of ReadFault = codes "dali: read fault"
 words_of PrintFault = codes "dali: print fault"
@@ -21,6 +22,7 @@ line_of status = words_of status
 -- the number that the program ends with
 abbrev pub number_of : Status → ℕ
 number_of Done = 0
+number_of (Invalid why) = 1
 number_of Usage = 2
 number_of ReadFault = 3
 number_of PrintFault = 4

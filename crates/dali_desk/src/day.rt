@@ -2,18 +2,18 @@ ghost use Rattle.std.specs.Prelude.{◌≡◌, ◌+◌, ◌<◌, ◌≤◌, ◌^
 ghost use Rattle.dali_outside.specs.Outside.{Feed, Sight};
 ghost use Rattle.dali_line.specs.Line.{is_line};
 ghost use Rattle.dali_line.specs.Lines.{MOST_OF_FILE};
-ghost use Rattle.dali_machine.specs.History.{HasItsChoice};
 ghost use Rattle.dali_machine.specs.Step.{judged};
 ghost use Rattle.dali_desk.specs.DayRun.{DayRun};
 ghost use Rattle.dali_desk.specs.DaySoFar.{DaySoFar, Answers, status_of_end};
+ghost use Rattle.dali_desk.specs.FinestDay.{HasFinestChoice};
 
 use crate::status::Status;
 use dali_base::OutOfMemory;
 use dali_line::{Line, LineEnd, Lines};
 use dali_machine::State;
 use dali_outside::{Failed, Site, Source};
+use dali_parts::solve_parts;
 use dali_reply::reply;
-use dali_search::solve;
 use dali_tree::Choice;
 use std::alloc::Global;
 
@@ -86,12 +86,12 @@ fn answer<T: Site>(
     }
 }
 
-/// The choice of an accepted CYCLE. `None` exactly where the line is none.
+/// The choice of an accepted CYCLE, whose parts are the finest ones. `None` exactly where the line is none.
 fn choose(alloc: Global, state: &State, line: &Line) -> Result<Option<Choice>, OutOfMemory>
-    ensures { IfOk result (HasItsChoice state.now.machine (judged 1 state.now.machine line.now)) }
+    ensures { IfOk result (HasFinestChoice state.now.machine (judged 1 state.now.machine line.now)) }
 {
     match state.cycle_input(EDITION, line)? {
-        Some(cycle) => Ok(Some(solve(alloc, &cycle.0.problem, cycle.1)?)),
+        Some(cycle) => Ok(Some(solve_parts(alloc, &cycle.0.problem, cycle.1)?)),
         None => Ok(None),
     }
 }

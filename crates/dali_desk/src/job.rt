@@ -1,14 +1,12 @@
-ghost use Rattle.std.specs.Prelude.{◌≡◌, ◌≢◌, ◌↔◌, ◌≤◌, ◌^◌, ℕ, [], decimal, IsTrue, IfOk, OnErr};
+ghost use Rattle.std.specs.Prelude.{◌≡◌, ◌≢◌, ◌↔◌, ◌≤◌, ℕ, [], decimal, IsTrue, IfOk, OnErr};
 ghost use Rattle.std.specs.Str.{IsUtf8};
+ghost use Rattle.dali_journal.specs.Limits.{least_size};
+ghost use Rattle.dali_desk.specs.Limits.{most_size};
 ghost use Rattle.dali_desk.specs.Words.{IsJob};
 
+use crate::limits::MOST_SIZE;
 use dali_base::{Text, Words, read_number};
-
-/// The least size of a journal, in bytes.
-const LEAST_SIZE: u64 = 64;
-
-/// The greatest size of a journal, in bytes.
-const MOST_SIZE: u64 = 1 << 40;
+use dali_journal::limits::LEAST_SIZE;
 
 /// What the words of the command line ask for.
 #[derive(Clone, Copy, Debug, PartialEq, Eq)]
@@ -17,6 +15,8 @@ pub enum Job {
     Init { size: u64 },
     /// `day JOURNAL`: takes the commands of the day file.
     Day,
+    /// `check`: judges a certificate block.
+    Check,
 }
 
 /// The words are none of the table.
@@ -30,6 +30,7 @@ pub fn plan(words: &Words) -> Result<Job, Usage>
     ensures usage { OnErr result ((job : _) → IsJob words.now job → ⊥) }
 {
     match words.as_slice() {
+        [word] if is_word(word, b"check") => Ok(Job::Check),
         [word, path] if is_word(word, b"day") && is_path(path) => Ok(Job::Day),
         [word, path, size] if is_word(word, b"init") && is_path(path) => init(size),
         _ => Err(Usage),
@@ -38,8 +39,8 @@ pub fn plan(words: &Words) -> Result<Job, Usage>
 
 /// The job of `init` with this size.
 fn init(size: &Text) -> Result<Job, Usage>
-    ensures ok { IfOk result (λ job. (n : ℕ) × (job ≡ Job.Init n) × (64 ≤ n) × (n ≤ 2 ^ 40) × (size.now ≡ decimal n)) }
-    ensures usage { OnErr result ((n : ℕ) → 64 ≤ n → n ≤ 2 ^ 40 → size.now ≡ decimal n → ⊥) }
+    ensures ok { IfOk result (λ job. (n : ℕ) × (job ≡ Job.Init n) × (least_size ≤ n) × (n ≤ most_size) × (size.now ≡ decimal n)) }
+    ensures usage { OnErr result ((n : ℕ) → least_size ≤ n → n ≤ most_size → size.now ≡ decimal n → ⊥) }
 {
     let Some(size) = read_number(size.bytes(), MOST_SIZE) else {
         return Err(Usage);

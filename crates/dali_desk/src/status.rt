@@ -1,11 +1,16 @@
 ghost use Rattle.std.specs.Prelude.{◌≡◌, ◌+◌, ◌++◌, ◌≤◌, take, length};
 ghost use Rattle.dali_desk.specs.StatusLine.{line_of, words_of as words_of_status, number_of};
 
+use dali_verdict::Why;
+
 /// How a run ended.
 #[derive(Clone, Copy, Debug, PartialEq, Eq)]
 pub enum Status {
-    /// Of `day` the input was read to its end and every reply printed; of `init` the journal was made.
+    /// Of `day` the input was read to its end and every reply printed; of `check` the verdict was printed, and the input is a
+    /// block of an allowed choice; of `init` the journal was made.
     Done,
+    /// Of `check` the verdict was printed, and the input isn't a block of an allowed choice, for this reason.
+    Invalid(Why),
     /// The words are none of the table.
     Usage,
     /// The source failed.
@@ -16,7 +21,8 @@ pub enum Status {
     DiskFault,
     /// This command, counted from 1, has more than 200 bytes.
     LongLine { command: u64 },
-    /// The next command doesn't end within the 67,108,864 bytes that a day file may have, and there was one byte more.
+    /// Of `day` the next command doesn't end within the 67,108,864 bytes that a day file may have, and there was one byte
+    /// more; of `check` the input has more than 1,073,741,824 bytes.
     LongFile,
     /// Memory was wanted and wasn't there.
     OutOfMemory,
@@ -55,6 +61,7 @@ fn words_of(status: &Status) -> &'static [u8]
 {
     match status {
         Status::Done => b"",
+        Status::Invalid(_) => b"dali: invalid",
         Status::Usage =>
             b"dali: usage: init JOURNAL SIZE, day JOURNAL, check, export JOURNAL, gen N, trial N, raise JOURNAL, gate JOURNAL, ship JOURNAL, follow JOURNAL",
         Status::ReadFault => b"dali: read fault",
@@ -72,6 +79,7 @@ pub fn exit_number(status: &Status) -> u8
 {
     match status {
         Status::Done => 0,
+        Status::Invalid(_) => 1,
         Status::Usage => 2,
         Status::ReadFault => 3,
         Status::PrintFault => 4,

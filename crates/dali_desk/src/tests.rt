@@ -1,6 +1,6 @@
 ghost use Rattle.std.specs.Prelude.{◌≡◌, ◌≤◌, [], ◌∷◌, codes, decimal, IfOk};
 
-use crate::{Job, Status, Usage, exit_number, plan, run, status_line};
+use crate::{Job, Status, Usage, Why, exit_number, plan, run, status_line};
 use dali_base::{OutOfMemory, Text, Words};
 use dali_outside::{Fault, Faults, MemSite, MemSource};
 use std::alloc::Global;
@@ -36,7 +36,7 @@ const THREE_LINES: &[u8] = b"080000,PART,A\n080000,PART,B\n080001,ISSUE,A,MXN,10
 
 #[test]
 fn other_words(rt: HostRuntime) -> Result<(), Fail> {
-    let cases: [&[&[u8]]; 11] = [
+    let cases: [&[&[u8]]; 12] = [
         &[],
         &[b"day", b"\xff"],
         &[b"day"],
@@ -44,6 +44,7 @@ fn other_words(rt: HostRuntime) -> Result<(), Fail> {
         &[b"DAY", b"J"],
         &[b"day", b"J", b"J"],
         &[b"--help"],
+        &[b"check", b"J"],
         &[b"init", b"J"],
         &[b"init", b"J", b"63"],
         &[b"init", b"J", b"064"],
@@ -71,8 +72,9 @@ fn no_words(rt: HostRuntime) -> Result<(), Fail> {
 
 #[test]
 fn status_lines(rt: HostRuntime) {
-    let cases: [(Status, &[u8], u8); 9] = [
+    let cases: [(Status, &[u8], u8); 10] = [
         (Status::Done, b"", 0),
+        (Status::Invalid(Why::Form { line: 1 }), b"dali: invalid", 1),
         (
             Status::Usage,
             b"dali: usage: init JOURNAL SIZE, day JOURNAL, check, export JOURNAL, gen N, trial N, raise JOURNAL, gate JOURNAL, ship JOURNAL, follow JOURNAL",
@@ -147,5 +149,63 @@ fn the_greatest_size(rt: HostRuntime) -> Result<(), Fail> {
     let words = words(rt.alloc(), &[b"init", b"J", b"1099511627776"])?;
     let size = 1_099_511_627_776;
     assert_eq!(rt; plan(&words), Ok(Job::Init { size }));
+    Ok(())
+}
+
+/// A block of a payment alone.
+const BLOCK: &[u8] =
+    b"BLOCK,1\nBUDGET,0\nLINE,A,MXN,7\nLINE,B,MXN,0\nITEM,P1,4,0:-4,1:4\nSET,0\nPART,4,0\nBOUND\nLAST\n";
+
+/// The word `check`.
+fn check_words(alloc: Global) -> Result<Words, OutOfMemory>
+    ensures { IfOk result (λ words. words ≡ codes "check" ∷ []) }
+{
+    let mut words = Words::new(alloc);
+    words.push(text(alloc, b"check")?)?;
+    Ok(words)
+}
+
+/// How `check` ends that reads this input in pieces of 20 bytes, where this read and this print fail, and what it prints.
+fn checked(
+    alloc: Global,
+    input: &[u8],
+    read: Option<Fault>,
+    print: Option<Fault>,
+) -> Result<(Status, Text), OutOfMemory> {
+    let words = check_words(alloc)?;
+    let mut source = MemSource::new(text(alloc, input)?, 20, faults(alloc, read)?);
+    let mut site = MemSite::new(alloc, 0, 64, 8, 0, faults(alloc, print)?)?;
+    let status = run(alloc, &words, &mut source, &mut site);
+    Ok((status, text(alloc, site.printed())?))
+}
+
+#[test]
+fn blocks_are_checked(rt: HostRuntime) -> Result<(), Fail> {
+    let form = Status::Invalid(Why::Form { line: 1 });
+    let rows: [(&[u8], Status, &[u8]); 2] = [
+        (BLOCK, Status::Done, b"VALID,OPTIMAL,4,1,4,0\n"),
+        (&BLOCK[1..], form, b"INVALID,FORM,1\n"),
+    ];
+    for (input, wanted, line) in rows {
+        let (status, printed) = checked(rt.alloc(), input, None, None)?;
+        assert_eq!(rt; status, wanted);
+        assert_eq!(rt; printed.bytes(), line);
+    }
+    Ok(())
+}
+
+#[test]
+fn a_check_whose_read_or_print_fails(rt: HostRuntime) -> Result<(), Fail> {
+    let read = Some(Fault { call: 2, went: 5 });
+    let print = Some(Fault { call: 1, went: 5 });
+    let rows: [(Option<Fault>, Option<Fault>, Status, &[u8]); 2] = [
+        (read, None, Status::ReadFault, b""),
+        (None, print, Status::PrintFault, b"VALID"),
+    ];
+    for (read, print, wanted, shown) in rows {
+        let (status, printed) = checked(rt.alloc(), BLOCK, read, print)?;
+        assert_eq!(rt; status, wanted);
+        assert_eq!(rt; printed.bytes(), shown);
+    }
     Ok(())
 }

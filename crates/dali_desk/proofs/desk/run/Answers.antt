@@ -1,5 +1,5 @@
-use Rattle.std.proofs.Common.{◌≡◌, ◌∙◌, ◌≤◌, sym, subst}
-use Rattle.dali_desk.specs.declared.job.Job.TheVariants.{Init, Day}
+use Rattle.std.proofs.Common.{◌≤◌, sym, subst}
+use Rattle.dali_desk.specs.declared.job.Job.TheVariants.{Init, Day, Check}
 use Rattle.dali_desk.specs.Words.{IsJob}
 use Rattle.dali_desk.proofs.desk.run.Goals as goal
 
@@ -13,3 +13,6 @@ returns-in-Err-clause-init g c size job = absurd (c.in-Err.ensures.usage (Init s
 
 pub returns-in-Err-clause-day : goal.returns-in-Err-clause-day
 returns-in-Err-clause-day g c is = absurd (c.in-Err.ensures.usage Day is)
+
+pub returns-in-Err-clause-check : goal.returns-in-Err-clause-check
+returns-in-Err-clause-check g c is = absurd (c.in-Err.ensures.usage Check is)

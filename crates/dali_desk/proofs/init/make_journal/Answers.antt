@@ -8,7 +8,10 @@ returns-in-Ok g c = record {
   done = λ tells told. c.in-Ok.ensures.empty tells;
   bytes = λ tells told. c.in-Ok.ensures.bytes tells;
   images = λ tells told. c.in-Ok.ensures.images tells;
-  silent = λ tells. c.format.ensures.silent tells;
-  goes = c.format.ensures.goes;
-  syncs = c.format.ensures.syncs;
+  stops = c.format-made.ensures.torn;
+  outside = c.format-made.ensures.outside;
+  whole = c.size-size.ensures.told;
+  silent = λ tells. c.format-made.ensures.silent tells;
+  goes = c.format-made.ensures.goes;
+  syncs = c.format-made.ensures.syncs;
 }
