@@ -96,7 +96,7 @@ module _ (told : Bool) (before : Sight) (found added held : List EntryRecord) (r
 -- what an append of a group says of the entries behind it
 pub group_appends : (told worked : Bool) (before : Sight) (found added held : List EntryRecord) (r : Register) (old mid : Sight) → Stands told before found added held r old → (is : IsTrue told) →
     ((edition : ℕ) (list : List (List ℕ)) → AtRest r.journal.tail edition list old →
-        (frames : List ℕ) × AreFrames r.group frames × (length frames ≡ frames_length r.group) × Appends worked r.journal.tail edition list r.group frames old mid) →
+    (frames : List ℕ) × AreFrames r.group frames × (length frames ≡ frames_length r.group) × Appends worked r.journal.tail edition list r.group frames old mid) →
     AppendsMore worked r.journal.tail r.journal.edition (found ++ added) held (frames_length r.group) old mid
 group_appends told worked before found added held r old mid stands is stops =
     let given = stops r.journal.edition (records_of (found ++ added)) (stands.kept.rest is) in

@@ -72,20 +72,20 @@ pub put_left : (before : Sight) (found all : List EntryRecord) (tail edition : �
 put_left before found all tail edition shown piece rest worked old new tells at entries begins printed text prints same =
     leaves_weaker (LeavesPut old piece) (LeavesDay before found all) old new
     (λ image left may.
-        let same_bytes : image ≡ old.bytes = only_image old.bytes (length old.loose) image (tells.loose ∙ sym tells.bytes) (subst (λ ls. IsImage old.bytes ls image) at.firm may.disk) in
-        inr (record {
-          history = all;
-          begins = begins;
-          within = whole_front all;
-          spells = record { edition = edition; holds = record { tail = tail; at = subst (HoldsAt tail edition (records_of all)) (sym same_bytes) at.holds }; entries = entries };
-          shown = shown ++ may.shown;
-          printed = may.printed ∙ ap (λ xs. xs ++ may.shown) printed ∙ append_assoc before.printed shown may.shown;
-          front = record {
-            rest = may.front.rest ++ rest;
-            parts = text ∙ ap (λ xs. shown ++ (xs ++ rest)) may.front.parts ∙ ap (λ xs. shown ++ xs) (append_assoc may.shown may.front.rest rest)
-                ∙ sym (append_assoc shown may.shown (may.front.rest ++ rest));
-          };
-        }))
+    let same_bytes : image ≡ old.bytes = only_image old.bytes (length old.loose) image (tells.loose ∙ sym tells.bytes) (subst (λ ls. IsImage old.bytes ls image) at.firm may.disk) in
+    inr (record {
+      history = all;
+      begins = begins;
+      within = whole_front all;
+      spells = record { edition = edition; holds = record { tail = tail; at = subst (HoldsAt tail edition (records_of all)) (sym same_bytes) at.holds }; entries = entries };
+      shown = shown ++ may.shown;
+      printed = may.printed ∙ ap (λ xs. xs ++ may.shown) printed ∙ append_assoc before.printed shown may.shown;
+      front = record {
+        rest = may.front.rest ++ rest;
+        parts = text ∙ ap (λ xs. shown ++ (xs ++ rest)) may.front.parts ∙ ap (λ xs. shown ++ xs) (append_assoc may.shown may.front.rest rest)
+            ∙ sym (append_assoc shown may.shown (may.front.rest ++ rest));
+      };
+    }))
     (put_stops worked piece old new prints same)
 
 -- the whole of a text, and a front of what comes behind it

@@ -21,11 +21,7 @@ use dali_outside::Site;
 
 impl Register {
     /// Takes a line that is no accepted CYCLE.
-    pub(crate) fn take_plain<T: Site>(
-        &mut self,
-        line: Line,
-        site: &mut T,
-    ) -> Result<(), RegisterNo>
+    pub(crate) fn take_plain<T: Site>(&mut self, line: Line, site: &mut T) -> Result<(), RegisterNo>
         requires few { self.old.state.machine.commands < 2 ^ 63 }
         requires at_site { IsAtSite self.old (T.sight site.old) }
         requires room { length self.old.group < most_payloads }

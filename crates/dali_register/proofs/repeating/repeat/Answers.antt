@@ -19,7 +19,7 @@ returns-in-Ok-clause-repeated g c before found done todo tail edition parts stat
     repeated_one g.T.Site.tells before found done todo e tail edition m (g.T.Site.sight c.args.site.now) (g.T.Site.sight c.put.new.self) parts state entries repeats
     c.bytes.result.now piece c.size-size.ensures.told c.in-Ok.ensures.disk c.in-Ok.ensures.goes c.commit-outcome.new.self.machine c.in-Ok.ensures.text
     (subst (λ (x : Machine). IsReady e.edition x e.line c.in_ok-choice.choice c.in_ok-ready.ready → c.commit-outcome.new.self.machine ≡ (step e.edition x e.line c.in_ok-choice.choice).next)
-        c.prepare.ensures.machine (c.commit-outcome.ensures.step e.edition e.line c.in_ok-choice.choice) c.in_ok-ready.ensures.ready
+    c.prepare.ensures.machine (c.commit-outcome.ensures.step e.edition e.line c.in_ok-choice.choice) c.in_ok-ready.ensures.ready
     ∙ ap (λ choice. (step e.edition m e.line choice).next) c.in_ok-choice.ensures)
 
 pub returns-clause-repeated : goal.returns-clause-repeated

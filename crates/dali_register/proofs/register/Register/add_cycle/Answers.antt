@@ -27,9 +27,9 @@ returns-in-Err-JournalFull-clause-added g c before found added line stands spend
     let same = c.in-Err-JournalFull.ensures.unwritten full.0 in
     let long : length c.args.sealed.now ≡ length c.args.made.record + 5 = ap length c.requires.frame ∙ frame_length c.args.made.record in
     subst (λ (s : Sight). FillsUp told before found added line c.in-Err-JournalFull.need c.in-Err-JournalFull.left
-        (record { state = r.state; journal = c.append.new.self; group = r.group; replies = r.replies; alloc = r.alloc }) s) (sym same.1)
+    (record { state = r.state; journal = c.append.new.self; group = r.group; replies = r.replies; alloc = r.alloc }) s) (sym same.1)
     (subst (λ (j : Reached). FillsUp told before found added line c.in-Err-JournalFull.need c.in-Err-JournalFull.left
-        (record { state = r.state; journal = j; group = r.group; replies = r.replies; alloc = r.alloc }) old) (sym same.0)
+    (record { state = r.state; journal = j; group = r.group; replies = r.replies; alloc = r.alloc }) old) (sym same.0)
     (cycle_full told before found added line r c.args.made old old stands spends of c.in-Err-JournalFull.need c.in-Err-JournalFull.left (length c.args.sealed.now) long full.1 full.2 full.0))
 
 pub returns-in-Err-JournalFull-clause-edition : goal.returns-in-Err-JournalFull-clause-edition
