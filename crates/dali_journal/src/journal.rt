@@ -42,9 +42,10 @@ impl Journal {
         self.tail
     }
 
-    /// The bytes from the tail to the end of the device.
+    /// The bytes from the tail, which is a gate, to the end of the device.
     pub fn left(&self) -> u64
-        ensures { result ≡ self.now.left }
+        ensures value { result ≡ self.now.left }
+        ensures some { 1 ≤ result }
     {
         self.left
     }

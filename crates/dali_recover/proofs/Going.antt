@@ -11,6 +11,7 @@ use Rattle.dali_journal.specs.Holds.{HoldsAt}
 use Rattle.dali_journal.specs.Frames.{frames_length}
 use Rattle.dali_journal.specs.declared.refusal.Damage.{Damage}
 use Rattle.dali_recover.specs.Spells.{records_of, AreEntriesIn}
+use Rattle.dali_recover.specs.Reported.{AreReported}
 use Rattle.dali_recover.specs.Damaged.{ReadsTo, DamagedAt}
 use Rattle.dali_recover.specs.Recovers.{IsReadTo, IsFound}
 use Rattle.dali_recover.specs.Taking.{Quiet, SoFar}
@@ -44,6 +45,7 @@ so_far_start tells s found state entries tail whole reads = record {
     entries = subst (λ (es : List EntryRecord). AreEntriesIn found.journal.edition es) (sym entries)
         (record { within = All-nil IsWithin; editions = All-nil (λ (e : EntryRecord). e.edition ≤ found.journal.edition) });
     legal = subst IsLegal (sym entries) (record { entries = tt });
+    reported = subst (AreReported opening) (sym entries) tt;
     state = state ∙ ap state_of (sym entries);
     counted = ap (λ (m : Machine). m.commands) state ∙ sym (ap length entries);
     place = tail ∙ ap (λ (es : List EntryRecord). 16 + frames_length (records_of es)) (sym entries);

@@ -10,7 +10,10 @@ use Rattle.dali_record.specs.RecordText.{record_text}
 use Rattle.dali_record.proofs.EntryAgain.{one_entry}
 use Rattle.dali_machine.specs.Machine.{Machine}
 use Rattle.dali_machine.specs.History.{IsNext, AreNext, after_entry, state_after}
+use Rattle.dali_machine.specs.Outcomes.{IsReported}
+use Rattle.dali_machine.specs.Step.{step}
 use Rattle.dali_journal.specs.Frames.{frames_length}
+use Rattle.dali_recover.specs.Reported.{AreReported}
 use Rattle.dali_recover.specs.Spells.{records_of}
 use Rattle.dali_recover.specs.Damaged.{last_edition}
 
@@ -41,6 +44,17 @@ pub next_there : (m : Machine) (last : ℕ) (entries : List EntryRecord) (e : En
     IsNext (state_after m entries) (last_edition last entries) e
 next_there m last [] e more are = are.0
 next_there m last (x ∷ entries) e more are = next_there (after_entry m x) x.edition entries e more are.1
+
+-- what is answered to one more entry is true
+pub reported_more : (m : Machine) (entries : List EntryRecord) (e : EntryRecord) → AreReported m entries →
+    IsReported (step e.edition (state_after m entries) e.line e.choice).outcome → AreReported m (entries ++ e ∷ [])
+reported_more m [] e are is = (is, tt)
+reported_more m (x ∷ entries) e are is = (are.0, reported_more (after_entry m x) entries e are.1 is)
+
+-- and to the first ones
+pub reported_first : (m : Machine) (first second : List EntryRecord) → AreReported m (first ++ second) → AreReported m first
+reported_first m [] second are = tt
+reported_first m (e ∷ first) second are = (are.0, reported_first (after_entry m e) first second are.1)
 
 pub all_there : {X : Type 0} (P : X → Type 0) (xs : List X) (x : X) (more : List X) → All P (xs ++ x ∷ more) → P x
 all_there P [] x more all = All-head P x more all

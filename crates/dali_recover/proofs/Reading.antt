@@ -13,6 +13,7 @@ use Rattle.dali_journal.specs.JournalAt.{Reached, IsTooLong, Finds}
 use Rattle.dali_journal.specs.Frames.{frames_length}
 use Rattle.dali_journal.specs.declared.refusal.Damage.{Damage}
 use Rattle.dali_journal.specs.declared.refusal.Damage.TheVariants as damage
+use Rattle.dali_recover.specs.Reported.{AreReported}
 use Rattle.dali_recover.specs.Spells.{records_of, AreEntriesIn}
 use Rattle.dali_recover.specs.Damaged.{last_edition, ReadsTo, StandsWhole, FailsBehind, DamagedAt}
 use Rattle.dali_recover.specs.Recovers.{IsReadTo, IsFound}
@@ -22,7 +23,7 @@ use Rattle.dali_recover.specs.declared.refusal.Denial.{Denial}
 use Rattle.dali_recover.specs.declared.refusal.Denial.TheVariants as denials
 use Rattle.dali_recover.specs.declared.refusal.RecoverNo.{RecoverNo}
 use Rattle.dali_recover.specs.declared.refusal.RecoverNo.TheVariants as errors
-use Rattle.dali_recover.proofs.Histories.{state_more, next_more, records_more, frames_more, frames_many}
+use Rattle.dali_recover.proofs.Histories.{state_more, next_more, reported_more, records_more, frames_more, frames_many}
 use Rattle.dali_recover.proofs.Fronts.{fits_whole}
 
 -- an entry more, in a journal that can hold it
@@ -34,6 +35,9 @@ entries_more edition payload old new are on = subst (AreEntriesIn edition) (sym 
 
 pub legal_more : (edition : ℕ) (payload : List ℕ) (old new : List EntryRecord) → IsLegal old → GoesOnWith edition payload old new → IsLegal new
 legal_more edition payload old new are on = subst IsLegal (sym on.longer) (record { entries = next_more opening 0 old on.e are.entries on.next })
+
+pub reported_on : (edition : ℕ) (payload : List ℕ) (old new : List EntryRecord) → AreReported opening old → GoesOnWith edition payload old new → AreReported opening new
+reported_on edition payload old new are on = subst (AreReported opening) (sym on.longer) (reported_more opening old on.e are on.reported)
 
 pub records_on : (edition : ℕ) (payload : List ℕ) (old new : List EntryRecord) → GoesOnWith edition payload old new → records_of new ≡ records_of old ++ payload ∷ []
 records_on edition payload old new on = ap records_of on.longer ∙ records_more old on.e ∙ ap (λ (bs : List ℕ). records_of old ++ bs ∷ []) (sym on.record_is.text)
@@ -56,6 +60,7 @@ pub read_more : (size : ℕ) (old new : Found) (payload : List ℕ) → IsReadTo
 read_more size old new payload read on state counted edition tail whole = record {
   entries = subst (λ k. AreEntriesIn k new.entries) (sym edition) (entries_more old.journal.edition payload old.entries new.entries read.entries on);
   legal = legal_more old.journal.edition payload old.entries new.entries read.legal on;
+  reported = reported_on old.journal.edition payload old.entries new.entries read.reported on;
   state = state;
   counted = omega (arith, counted, read.counted, length_on old.journal.edition payload old.entries new.entries on);
   place = omega (arith, tail, read.place, frames_on old.journal.edition payload old.entries new.entries on);

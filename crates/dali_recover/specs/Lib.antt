@@ -1,8 +1,10 @@
 pub mod Spells
+pub mod Reported
 pub mod Damaged
 pub mod Recovers
 pub mod Taking
 pub use Rattle.dali_machine.specs.History
+pub use Rattle.dali_machine.specs.Outcomes
 pub use Rattle.dali_journal.specs.Holds
 pub use Rattle.dali_journal.specs.Appends
 pub use Rattle.dali_journal.specs.JournalAt

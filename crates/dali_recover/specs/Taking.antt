@@ -8,6 +8,8 @@ use Rattle.dali_machine.specs.History.{IsNext, state_of}
 use Rattle.dali_machine.specs.declared.outcome.Outcome.{Outcome}
 use Rattle.dali_machine.specs.Cycles.{Cycling}
 use Rattle.dali_machine.specs.Ready.{cycle_in}
+use Rattle.dali_machine.specs.Outcomes.{IsReported}
+use Rattle.dali_machine.specs.Step.{step}
 use Rattle.dali_recover.specs.Damaged.{last_edition, IsNoEntry, IsIllegal, ReadsTo}
 use Rattle.dali_recover.specs.Recovers.{IsReadTo}
 use Rattle.dali_recover.specs.declared.found.Found.{Found}
@@ -45,6 +47,7 @@ pub record GoesOnWith (edition : ℕ) (payload : List ℕ) (old new : List Entry
   pub record_is : IsRecord payload e
   pub most : e.edition ≤ edition
   pub next : IsNext (state_of old) (last_edition 0 old) e
+  pub reported : IsReported (step e.edition (state_of old) e.line e.choice).outcome
   pub longer : new ≡ old ++ e ∷ []
 
 -- what is answered where the payload of the record at this place is denied

@@ -1,6 +1,7 @@
 ghost use Rattle.std.specs.Prelude.{◌≡◌, ◌+◌, ◌<◌, ◌≤◌, ◌^◌, ◌++◌, [], ◌∷◌, IfOk, IfErr, OnOk};
 ghost use Rattle.dali_machine.specs.History.{HasItsChoice, after_entry, state_of};
-ghost use Rattle.dali_machine.specs.Step.{judged};
+ghost use Rattle.dali_machine.specs.Outcomes.{IsReported};
+ghost use Rattle.dali_machine.specs.Step.{judged, step};
 ghost use Rattle.dali_recover.specs.Damaged.{last_edition, IsNoEntry};
 ghost use Rattle.dali_recover.specs.Taking.{IsEntryFor, Denies, DeniesEntry, GoesOnWith, choice_in};
 
@@ -69,6 +70,7 @@ fn take_entry(
     ensures entries { OnOk result (entries.new ≡ entries.old ++ entry ∷ []) }
     ensures state { OnOk result (state.new.machine ≡ after_entry state.old.machine entry) }
     ensures counted { OnOk result (state.new.machine.commands ≡ state.old.machine.commands + 1) }
+    ensures reported { OnOk result (IsReported (step entry.edition state.old.machine entry.line entry.choice).outcome) }
     ensures denied { IfErr result (λ e. e ≡ Denial.Illegal → HasItsChoice state.old.machine (judged entry.edition state.old.machine entry.line) entry.choice → ⊥) }
     ensures judged { IfErr result (λ e. e ≡ Denial.Entry → ⊥) }
 {
