@@ -43,8 +43,8 @@ module _ (told : Bool) (before : Sight) (found added : List EntryRecord) (line :
   machine_is : r.state.machine ≡ state_of kept
   machine_is = stands.machine ∙ ap state_of (append-nil kept)
 
-  one_more : AreEntries r.journal.edition (kept ++ of.entry ∷ [])
-  one_more = entries_more r.journal.edition kept r.state.machine of.entry (subst (AreEntries r.journal.edition) (append-nil kept) stands.entries) machine_is of.may
+  one_more : AreEntries r.journal.edition found (kept ++ of.entry ∷ [])
+  one_more = entries_more r.journal.edition found kept r.state.machine of.entry (subst (AreEntries r.journal.edition found) (append-nil kept) stands.entries) machine_is of.may
 
   begins : IsFront found kept
   begins = record { rest = added; parts = refl }
@@ -102,7 +102,7 @@ module _ (told : Bool) (before : Sight) (found added : List EntryRecord) (line :
       more = of.entry ∷ [];
       lines = record { rest = []; parts = ap (λ x. x ∷ []) (sym of.line_is) };
       in_part = record {
-        entries = subst (AreEntries r.journal.edition) behind one_more;
+        entries = subst (AreEntries r.journal.edition found) behind one_more;
         rest = λ is. subst (λ xs. AtRest (r.journal.tail + len) r.journal.edition (records_of xs) new) behind
             (put_rest told before found kept (of.entry ∷ []) r.journal.tail r.journal.edition len old mid begins one_more.held stands.kept made.reply new replies appends silent tells same is);
         text = λ is. subst (λ xs. PrintsFront (text_of xs) before new) behind
@@ -136,8 +136,8 @@ module _ (told : Bool) (before : Sight) (found added : List EntryRecord) (line :
           kept = subst (λ (j : Reached). HasKept told before found (found ++ (added ++ of.entry ∷ [])) j.tail j.edition new) (sym journal)
               (subst (λ xs. HasKept told before found xs (r.journal.tail + len) r.journal.edition new) behind
               (has_more told before found kept (of.entry ∷ []) r.journal.tail r.journal.edition len old mid begins one_more.held stands.kept made.reply new replies appends silent tells same prints first second));
-          entries = subst (λ (j : Reached). AreEntries j.edition ((found ++ (added ++ of.entry ∷ [])) ++ [])) (sym journal)
-              (subst (AreEntries r.journal.edition) (behind ∙ sym (append-nil (found ++ (added ++ of.entry ∷ [])))) one_more);
+          entries = subst (λ (j : Reached). AreEntries j.edition found ((found ++ (added ++ of.entry ∷ [])) ++ [])) (sym journal)
+              (subst (AreEntries r.journal.edition found) (behind ∙ sym (append-nil (found ++ (added ++ of.entry ∷ [])))) one_more);
           own = subst (λ (j : Reached). All (λ (e : EntryRecord). e.edition ≡ j.edition) ((added ++ of.entry ∷ []) ++ [])) (sym journal)
               (subst (All (λ (e : EntryRecord). e.edition ≡ r.journal.edition)) (sym (append-nil (added ++ of.entry ∷ [])))
               (All-push (λ (e : EntryRecord). e.edition ≡ r.journal.edition) added of.entry (subst (All (λ (e : EntryRecord). e.edition ≡ r.journal.edition)) (append-nil added) stands.own) of.may.own));

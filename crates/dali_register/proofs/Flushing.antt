@@ -60,7 +60,7 @@ module _ (told : Bool) (before : Sight) (found added held : List EntryRecord) (r
     pub flush_mumbled : (IsTrue told → Prints false r.replies mid new) → Rose mid.print_faults new.print_faults →
         PrintsInPart told before found (added ++ held) (r.journal.tail + frames_length r.group) r.journal.edition old new
     flush_mumbled prints rose = record {
-      entries = subst (AreEntries r.journal.edition) (sym kept_is) stands.entries;
+      entries = subst (AreEntries r.journal.edition found) (sym kept_is) stands.entries;
       rest = λ is. subst (λ xs. AtRest (r.journal.tail + frames_length r.group) r.journal.edition (records_of xs) new) (sym kept_is)
           (put_rest told before found (found ++ added) held r.journal.tail r.journal.edition (frames_length r.group) old mid begins stands.entries.held stands.kept r.replies new stands.replies appends silent tells same is);
       text = λ is. subst (λ xs. PrintsFront (text_of xs) before new) (sym kept_is)
@@ -84,7 +84,7 @@ module _ (told : Bool) (before : Sight) (found added held : List EntryRecord) (r
       kept = subst (λ (j : Reached). HasKept told before found (found ++ (added ++ held)) j.tail j.edition new) (sym journal)
           (subst (λ xs. HasKept told before found xs (r.journal.tail + frames_length r.group) r.journal.edition new) (sym kept_is)
           (has_more told before found (found ++ added) held r.journal.tail r.journal.edition (frames_length r.group) old mid begins stands.entries.held stands.kept r.replies new stands.replies appends silent tells same prints first second));
-      entries = subst (λ (j : Reached). AreEntries j.edition ((found ++ (added ++ held)) ++ [])) (sym journal) (subst (AreEntries r.journal.edition) (sym (moved_over found added held)) stands.entries);
+      entries = subst (λ (j : Reached). AreEntries j.edition found ((found ++ (added ++ held)) ++ [])) (sym journal) (subst (AreEntries r.journal.edition found) (sym (moved_over found added held)) stands.entries);
       own = subst (λ (j : Reached). All (λ (e : EntryRecord). e.edition ≡ j.edition) ((added ++ held) ++ [])) (sym journal)
           (subst (All (λ (e : EntryRecord). e.edition ≡ r.journal.edition)) (sym (append-nil (added ++ held))) stands.own);
       machine = ap (λ (x : StateRecord). x.machine) state ∙ stands.machine ∙ ap state_of (sym (moved_over found added held));

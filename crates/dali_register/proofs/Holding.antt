@@ -7,12 +7,15 @@ use Rattle.dali_journal.specs.Frames.{frames_length}
 use Rattle.dali_journal.specs.JournalAt.{Reached}
 use Rattle.dali_journal.specs.Limits.{most_payloads}
 use Rattle.dali_line.specs.Line.{is_line}
+use Rattle.dali_machine.specs.Cycles.{accepted_cycle}
 use Rattle.dali_machine.specs.History.{AreNext, IsNext, HasItsChoice, after_entry, state_of}
 use Rattle.dali_machine.specs.Machine.{Machine, StateRecord, opening}
-use Rattle.dali_machine.specs.Step.{judged}
+use Rattle.dali_machine.specs.Outcomes.{IsReported}
+use Rattle.dali_machine.specs.Step.{judged, step}
 use Rattle.dali_outside.specs.Outside.{Sight}
 use Rattle.dali_record.specs.IsRecord.{IsWithin}
 use Rattle.dali_record.specs.RecordText.{record_text}
+use Rattle.dali_register.specs.Added.{HasFinest}
 use Rattle.dali_register.specs.Holding.{MayHold}
 use Rattle.dali_register.specs.Making.{IsMade}
 use Rattle.dali_recover.specs.Spells.{records_of, AreEntriesIn}
@@ -20,11 +23,14 @@ use Rattle.dali_register.specs.Standing.{HasKept, AreEntries, IsAtSite, Stands, 
 use Rattle.dali_register.specs.TextOf.{answer_to, texts}
 use Rattle.dali_register.specs.declared.making.Made.{Made}
 use Rattle.dali_register.specs.declared.register.Register.{Register}
+use Rattle.dali_recover.proofs.Histories.{reported_more}
+use Rattle.dali_register.proofs.Adding.{since_more}
 use Rattle.dali_register.proofs.Texts.{texts_append, state_append, records_append, last_edition, last_within, next_more}
 
 -- one more entry of the journal's edition, which the state may take
-pub entries_more : (edition : ℕ) (entries : List EntryRecord) (m : Machine) (e : EntryRecord) → AreEntries edition entries → m ≡ state_of entries → MayHold edition m e → AreEntries edition (entries ++ e ∷ [])
-entries_more edition entries m e are is may = record {
+pub entries_more : (edition : ℕ) (found entries : List EntryRecord) (m : Machine) (e : EntryRecord) → AreEntries edition found entries → m ≡ state_of entries → MayHold edition m e →
+    AreEntries edition found (entries ++ e ∷ [])
+entries_more edition found entries m e are is may = record {
   legal = next_more opening 0 entries e are.legal (record {
     line = may.within.line;
     edition = omega (arith, may.own, last_within edition 0 entries (omega arith) are.held.editions);
@@ -34,6 +40,8 @@ entries_more edition entries m e are is may = record {
     within = All-push IsWithin entries e are.held.within may.within;
     editions = All-push (λ (x : EntryRecord). x.edition ≤ edition) entries e are.held.editions (omega (arith, may.own));
   };
+  reported = reported_more opening entries e are.reported (subst (λ x. IsReported (step e.edition x e.line e.choice).outcome) is may.reported);
+  added = since_more edition found entries e are.added may.own (subst (λ x. HasFinest x e.choice (accepted_cycle (judged e.edition x e.line))) is may.finest);
 }
 
 pub state_of_more : (entries : List EntryRecord) (m : Machine) (e : EntryRecord) → m ≡ state_of entries → after_entry m e ≡ state_of (entries ++ e ∷ [])
@@ -49,7 +57,7 @@ stands_same told before found added held r after s stands machine journal group 
     fits = omega (arith, ap frames_length group, ap (λ (j : Reached). j.left) journal, stands.at_site.fits);
   };
   kept = subst (λ (j : Reached). HasKept told before found (found ++ added) j.tail j.edition s) (sym journal) stands.kept;
-  entries = subst (λ (j : Reached). AreEntries j.edition ((found ++ added) ++ held)) (sym journal) stands.entries;
+  entries = subst (λ (j : Reached). AreEntries j.edition found ((found ++ added) ++ held)) (sym journal) stands.entries;
   own = subst (λ (j : Reached). All (λ (e : EntryRecord). e.edition ≡ j.edition) (added ++ held)) (sym journal) stands.own;
   machine = machine ∙ stands.machine;
   group = group ∙ stands.group;
@@ -81,8 +89,8 @@ held_more told before found added held e r after s made stands is may room fits 
         fits = omega (arith, ap frames_length group, frames_more r.group made.record, ap (λ (j : Reached). j.left) journal, fits);
       };
       kept = subst (λ (j : Reached). HasKept told before found (found ++ added) j.tail j.edition s) (sym journal) stands.kept;
-      entries = subst (λ (j : Reached). AreEntries j.edition ((found ++ added) ++ (held ++ e ∷ []))) (sym journal)
-          (subst (AreEntries r.journal.edition) behind (entries_more r.journal.edition ((found ++ added) ++ held) r.state.machine e stands.entries stands.machine may));
+      entries = subst (λ (j : Reached). AreEntries j.edition found ((found ++ added) ++ (held ++ e ∷ []))) (sym journal)
+          (subst (AreEntries r.journal.edition found) behind (entries_more r.journal.edition found ((found ++ added) ++ held) r.state.machine e stands.entries stands.machine may));
       own = subst (λ (j : Reached). All (λ (x : EntryRecord). x.edition ≡ j.edition) (added ++ (held ++ e ∷ []))) (sym journal)
           (subst (All (λ (x : EntryRecord). x.edition ≡ r.journal.edition)) (append_assoc added held (e ∷ []))
           (All-push (λ (x : EntryRecord). x.edition ≡ r.journal.edition) (added ++ held) e stands.own may.own));
@@ -119,11 +127,13 @@ at_site_more r after record_is s at fits journal group = record {
 
 -- a line that is no accepted CYCLE, as an entry
 pub plain_may : (edition own : ℕ) (m : Machine) (line : List ℕ) → own ≡ edition → 1 ≤ own → own ≤ 4 → IsTrue (is_line line) → HasItsChoice m (judged edition m line) None →
-    MayHold edition m (record { edition = own; line = line; choice = None })
-plain_may edition own m line same first newest line_is plain = record {
+    IsReported (step own m line None).outcome → MayHold edition m (record { edition = own; line = line; choice = None })
+plain_may edition own m line same first newest line_is plain reported = record {
   own = same;
   within = record { first = first; newest = newest; line = line_is; choice = tt };
   choice = subst (λ x. HasItsChoice m (judged x m line) None) (sym same) plain;
+  reported = reported;
+  finest = tt;
 }
 
 -- as many entries are held back as the group has payloads

@@ -1,4 +1,6 @@
 pub mod Texts
+pub mod Adding
+pub mod Starting
 pub mod Fronts
 pub mod Putting
 pub mod Keeping

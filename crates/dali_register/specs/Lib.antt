@@ -4,9 +4,11 @@ pub mod Leaving
 pub mod Standing
 pub mod Taking
 pub mod Making
+pub mod Added
 pub mod Holding
 pub mod Cycling
 pub mod Repeating
+pub mod Starting
 pub use Rattle.dali_outside.specs.Outside
 pub use Rattle.dali_outside.specs.Stops
 pub use Rattle.dali_journal.specs.Holds
@@ -15,5 +17,7 @@ pub use Rattle.dali_machine.specs.History
 pub use Rattle.dali_machine.specs.Step
 pub use Rattle.dali_record.specs.RecordText
 pub use Rattle.dali_record.specs.IsRecord
+pub use Rattle.dali_parts.specs.Finest
 pub use Rattle.dali_recover.specs.Spells
+pub use Rattle.dali_recover.specs.Reported
 pub use Rattle.dali_reply.specs.Reply

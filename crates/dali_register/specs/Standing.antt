@@ -9,7 +9,9 @@ use Rattle.dali_journal.specs.Limits.{most_payloads}
 use Rattle.dali_machine.specs.History.{AreNext, state_of}
 use Rattle.dali_machine.specs.Machine.{opening}
 use Rattle.dali_tree.specs.declared.choice.Choice.{Choice}
+use Rattle.dali_register.specs.Added.{AreAdded}
 use Rattle.dali_register.specs.Leaving.{LeavesDay}
+use Rattle.dali_recover.specs.Reported.{AreReported}
 use Rattle.dali_recover.specs.Spells.{records_of, AreEntriesIn}
 use Rattle.dali_register.specs.TextOf.{texts, text_of}
 use Rattle.dali_register.specs.declared.register.Register.{Register}
@@ -22,10 +24,13 @@ pub record HasKept (told : Bool) (before : Sight) (found kept : List EntryRecord
   pub stops : IsTrue told → LeavesOnly (LeavesDay before found kept) before sight
   pub goes : Goes before sight
 
--- entries that stand one after the other in a history, each within the journal's edition
-pub record AreEntries (edition : ℕ) (entries : List EntryRecord) : Type 0 where
+-- entries that stand one after the other in a history, each within the journal's edition; what is answered to them is true;
+-- and those behind the entries found are added ones
+pub record AreEntries (edition : ℕ) (found entries : List EntryRecord) : Type 0 where
   pub legal : AreNext opening 0 entries
   pub held : AreEntriesIn edition entries
+  pub reported : AreReported opening entries
+  pub added : AreAdded edition found entries
 
 -- a register is at its site: its journal is at the closed gate, and what it holds back fits behind it
 pub record IsAtSite (r : Register) (sight : Sight) : Type 0 where
@@ -38,7 +43,7 @@ pub record IsAtSite (r : Register) (sight : Sight) : Type 0 where
 pub record Stands (told : Bool) (before : Sight) (found added held : List EntryRecord) (r : Register) (sight : Sight) : Type 0 where
   pub at_site : IsAtSite r sight
   pub kept : HasKept told before found (found ++ added) r.journal.tail r.journal.edition sight
-  pub entries : AreEntries r.journal.edition ((found ++ added) ++ held)
+  pub entries : AreEntries r.journal.edition found ((found ++ added) ++ held)
   pub own : All (λ (e : EntryRecord). e.edition ≡ r.journal.edition) (added ++ held)
   pub machine : r.state.machine ≡ state_of ((found ++ added) ++ held)
   pub group : r.group ≡ records_of held

@@ -17,14 +17,14 @@ use Rattle.dali_register.specs.declared.register.Register.{Register}
 
 -- an append failed: a stop leaves the entries of before it or all of them, and what they print of all is the text of before
 pub record GivesUp (told : Bool) (before : Sight) (found all : List EntryRecord) (edition : ℕ) (old new : Sight) : Type 0 where
-  pub entries : AreEntries edition all
+  pub entries : AreEntries edition found all
   pub stops : IsTrue told → LeavesOnly (LeavesDay before found all) before new
   pub goes : Goes before new
   pub rose : Rose old.disk_faults new.disk_faults
 
 -- a put failed: all entries are firm on the device, and a front of their text was printed
 pub record PrintsInPart (told : Bool) (before : Sight) (found added : List EntryRecord) (tail edition : ℕ) (old new : Sight) : Type 0 where
-  pub entries : AreEntries edition (found ++ added)
+  pub entries : AreEntries edition found (found ++ added)
   pub rest : IsTrue told → AtRest tail edition (records_of (found ++ added)) new
   pub text : IsTrue told → PrintsFront (text_of (found ++ added)) before new
   pub stops : IsTrue told → LeavesOnly (LeavesDay before found (found ++ added)) before new

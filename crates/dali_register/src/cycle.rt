@@ -16,8 +16,8 @@ use dali_entry::Entry;
 use dali_journal::{AppendNo, Sealed, frame};
 use dali_line::Line;
 use dali_outside::{Failed, Site};
+use dali_parts::solve_parts;
 use dali_problem::Problem;
-use dali_search::solve;
 
 impl Register {
     /// Takes an accepted CYCLE, of this problem and budget, by itself: what is held back is appended and printed before
@@ -68,7 +68,7 @@ impl Register {
         let _bytes = line.bytes();
         // Called for its clause alone: the problem is within its limits.
         let _items = problem.items();
-        let choice = solve(self.alloc, problem, budget)?;
+        let choice = solve_parts(self.alloc, problem, budget)?;
         let entry = Entry {
             edition: self.journal.edition(),
             line,

@@ -1,7 +1,8 @@
 ghost use Rattle.std.specs.Prelude.{◌≡◌, ◌<◌, ◌^◌, IfOk};
 ghost use Rattle.dali_machine.specs.History.{HasItsChoice};
+ghost use Rattle.dali_machine.specs.Outcomes.{IsReported};
 ghost use Rattle.dali_machine.specs.Ready.{CanCommit};
-ghost use Rattle.dali_machine.specs.Step.{judged};
+ghost use Rattle.dali_machine.specs.Step.{judged, step};
 ghost use Rattle.dali_record.specs.IsRecord.{IsWithin};
 ghost use Rattle.dali_register.specs.Making.{IsMade};
 
@@ -27,6 +28,7 @@ pub(crate) fn make(alloc: Global, state: &mut State, entry: Entry) -> Result<Mad
     requires choice { HasItsChoice state.old.machine (judged entry.edition state.old.machine entry.line) entry.choice }
     ensures machine { state.new.machine ≡ state.old.machine }
     ensures made { IfOk result (IsMade entry state.old.machine) }
+    ensures reported { IfOk result (λ made. IsReported (step entry.edition state.old.machine entry.line entry.choice).outcome) }
     ensures room { IfOk result (λ made. CanCommit state.new made.ready) }
 {
     let record = encode(alloc, &entry)?;

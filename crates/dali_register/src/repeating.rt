@@ -1,8 +1,8 @@
-ghost use Rattle.std.specs.Prelude.{◌≡◌, ◌+◌, ◌<◌, ◌≤◌, ◌^◌, ◌++◌, ◌∷◌, ℕ, List, OnOk, IfOk};
+ghost use Rattle.std.specs.Prelude.{◌≡◌, ◌+◌, ◌<◌, ◌≤◌, ◌^◌, ◌++◌, ◌∷◌, ℕ, IsTrue, List, OnOk, IfOk};
 ghost use Rattle.dali_entry.specs.EntryRecord.{EntryRecord};
 ghost use Rattle.dali_machine.specs.History.{HasItsChoice, state_of};
 ghost use Rattle.dali_machine.specs.Step.{judged};
-ghost use Rattle.dali_outside.specs.Outside.{Sight, TellsAll};
+ghost use Rattle.dali_outside.specs.Outside.{Sight, Goes, SameDisk};
 ghost use Rattle.dali_record.specs.IsRecord.{IsWithin};
 ghost use Rattle.dali_register.specs.Repeating.{Repeats, Repeated};
 ghost use Rattle.dali_recover.specs.Spells.{AreEntriesIn};
@@ -31,6 +31,8 @@ pub fn repeat<T: Site>(
         AreEntriesIn edition found → Repeats T.tells before found done tail edition (T.sight site.old) →
         Repeated T.tells before found done entry.now tail edition state.new.machine (T.sight site.old) (T.sight site.new) result }
     ensures counted { OnOk result (state.new.machine.commands ≡ state.old.machine.commands + 1) }
+    ensures disk { IsTrue T.tells → SameDisk (T.sight site.old) (T.sight site.new) }
+    ensures goes { Goes (T.sight site.old) (T.sight site.new) }
     ensures syncs { (T.sight site.new).syncs ≤ (T.sight site.old).syncs }
 {
     let choice = copy_of(alloc, &entry.choice)?;

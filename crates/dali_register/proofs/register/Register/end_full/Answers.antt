@@ -18,5 +18,5 @@ returns-clause-took g c before found added held e far edition next need =
     let old = g.T.Site.sight c.args.site.now in
     let new = g.T.Site.sight c.flush.new.site in
     let stands = c.in_ok-flush.ensures.flushed before found added held far.stands in
-    took_full told before found added held e c.args.need c.left.result c.flush.new.self old new far.spends c.in_ok-flush.ensures.syncs stands (edition ∙ sym c.in_ok-flush.ensures.edition) next need c.left.ensures
-    (omega (arith, c.left.ensures, c.in_ok-flush.ensures.left, c.requires.full))
+    took_full told before found added held e c.args.need c.left.result c.flush.new.self old new far.spends c.in_ok-flush.ensures.syncs stands (edition ∙ sym c.in_ok-flush.ensures.edition) next need c.left.ensures.value
+    (omega (arith, c.left.ensures.value, c.in_ok-flush.ensures.left, c.requires.full))

@@ -20,12 +20,12 @@ returns-in_default-clause-took g c before found added held far =
 pub returns-then-left-bytes-clause-took : goal.returns-then-left-bytes-clause-took
 returns-then-left-bytes-clause-took g c before found added held far =
     let r = c.args.self.now in
-    let may = plain_may r.journal.edition c.edition.result r.state.machine c.args.line c.edition.ensures.value c.edition.ensures.bound.0 c.edition.ensures.bound.1 c.bytes-bytes.ensures.line c.requires.plain in
+    let may = plain_may r.journal.edition c.edition.result r.state.machine c.args.line c.edition.ensures.value c.edition.ensures.bound.0 c.edition.ensures.bound.1 c.bytes-bytes.ensures.line c.requires.plain c.in-Ok.ensures.reported in
     c.end_full.ensures.took before found added held (record { edition = c.edition.result; line = c.args.line; choice = None })
     (so_far_same g.T.Site.tells before found added held r (record { state = c.make.new.state; journal = r.journal; group = r.group; replies = r.replies; alloc = r.alloc }) (g.T.Site.sight c.args.site.now) far
     c.make.ensures.machine refl refl refl)
     c.edition.ensures.value
-    (entries_more r.journal.edition ((found ++ added) ++ held) r.state.machine (record { edition = c.edition.result; line = c.args.line; choice = None }) far.stands.entries far.stands.machine may).legal
+    (entries_more r.journal.edition found ((found ++ added) ++ held) r.state.machine (record { edition = c.edition.result; line = c.args.line; choice = None }) far.stands.entries far.stands.machine may).legal
     (omega (arith, c.len.ensures, ap length c.in-Ok.ensures.made.record_is))
 
 pub hold-requires-clause-room : goal.hold-requires-clause-room
@@ -46,7 +46,7 @@ returns-then-len-lt-MOST_PAYLOADS-clause-took g c before found added held far =
     let sight = g.T.Site.sight c.args.site.now in
     let after : Register = record { state = c.make.new.state; journal = r.journal; group = r.group; replies = r.replies; alloc = r.alloc } in
     let e : EntryRecord = record { edition = c.edition.result; line = c.args.line; choice = None } in
-    let may = plain_may r.journal.edition c.edition.result r.state.machine c.args.line c.edition.ensures.value c.edition.ensures.bound.0 c.edition.ensures.bound.1 c.bytes-bytes.ensures.line c.requires.plain in
+    let may = plain_may r.journal.edition c.edition.result r.state.machine c.args.line c.edition.ensures.value c.edition.ensures.bound.0 c.edition.ensures.bound.1 c.bytes-bytes.ensures.line c.requires.plain c.in-Ok.ensures.reported in
     let stands = c.in_default-hold.ensures.held told before found added held e sight (so_far_same told before found added held r after sight far c.make.ensures.machine refl refl refl).stands
     (subst (λ (m : Machine). IsMade e m c.in-Ok.made) (sym c.make.ensures.machine) c.in-Ok.ensures.made) (subst (λ (m : Machine). MayHold r.journal.edition m e) (sym c.make.ensures.machine) may) in
     record {
@@ -76,7 +76,7 @@ returns-clause-took g c before found added held far =
     let sight = g.T.Site.sight c.args.site.now in
     let after : Register = record { state = c.make.new.state; journal = r.journal; group = r.group; replies = r.replies; alloc = r.alloc } in
     let e : EntryRecord = record { edition = c.edition.result; line = c.args.line; choice = None } in
-    let may = plain_may r.journal.edition c.edition.result r.state.machine c.args.line c.edition.ensures.value c.edition.ensures.bound.0 c.edition.ensures.bound.1 c.bytes-bytes.ensures.line c.requires.plain in
+    let may = plain_may r.journal.edition c.edition.result r.state.machine c.args.line c.edition.ensures.value c.edition.ensures.bound.0 c.edition.ensures.bound.1 c.bytes-bytes.ensures.line c.requires.plain c.in-Ok.ensures.reported in
     let stands = c.in_default-hold.ensures.held told before found added held e sight (so_far_same told before found added held r after sight far c.make.ensures.machine refl refl refl).stands
     (subst (λ (m : Machine). IsMade e m c.in-Ok.made) (sym c.make.ensures.machine) c.in-Ok.ensures.made) (subst (λ (m : Machine). MayHold r.journal.edition m e) (sym c.make.ensures.machine) may) in
     took_last told before found added held e c.flush.new.self sight (g.T.Site.sight c.flush.new.site) c.flush.result far.spends
