@@ -1,0 +1,15 @@
+pub mod ReadingOn
+pub mod Long
+pub mod InputEnds
+pub mod Running
+pub mod Lines
+pub mod Inputs
+pub mod Syncs
+pub mod Replaying
+pub mod Recovered
+pub mod Closing
+pub mod Commands
+pub mod Days
+pub mod Prefixes
+pub mod Ended
+pub mod Promised
