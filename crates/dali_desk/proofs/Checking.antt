@@ -11,16 +11,15 @@ use Rattle.dali_verdict.specs.declared.verdict.Verdict.{Verdict}
 use Rattle.dali_verdict.specs.declared.verdict.Verdict.TheVariants as verdicts
 use Rattle.dali_verdict.specs.Verdict.{IsVerdict}
 use Rattle.dali_desk.specs.declared.status.Status.{Status}
-use Rattle.dali_desk.specs.declared.status.Status.TheVariants.{Done, Invalid, Usage, ReadFault, PrintFault, DiskFault, LongLine, LongFile, OutOfMemory}
+use Rattle.dali_desk.specs.declared.status.Status.TheVariants.{Done, Invalid, Usage, ReadFault, PrintFault, DiskFault, Damaged, OtherDay, LongLine, LongFile, JournalFull, OutOfMemory, NoGate, BadFrame}
 use Rattle.dali_desk.specs.declared.input.InputNo.{InputNo}
 use Rattle.dali_desk.specs.declared.input.InputNo.TheVariants as inputs
-use Rattle.dali_desk.specs.DayRun.{LeavesDay}
-use Rattle.dali_desk.specs.DaySoFar.{Quiet}
+use Rattle.dali_desk.specs.Texts.{LeavesText, Quiet}
 use Rattle.dali_desk.specs.Limits.{most_checked}
 use Rattle.dali_desk.specs.Input.{TakesWhole, EndsInput}
 use Rattle.dali_desk.specs.CheckRun.{EndsCheck, CheckTakes, CheckFinds, CheckPrints, IsChecked, Says, CheckRun}
 use Rattle.dali_desk.specs.Judging.{SaysInPart, Judges, status_of_unread, status_of_verdict}
-use Rattle.dali_desk.proofs.Days.{quiet_start}
+use Rattle.dali_desk.proofs.Printing.{quiet_start}
 use Rattle.dali_desk.proofs.Stopping.{stops_start}
 
 -- a block of an allowed choice isn't invalid
@@ -39,16 +38,21 @@ is_checked old new before after taken Usage small moved no_read no_print ends re
 is_checked old new before after taken ReadFault small moved no_read no_print ends read print takes = no_read (read refl)
 is_checked old new before after taken PrintFault small moved no_read no_print ends read print takes = no_print (print refl)
 is_checked old new before after taken DiskFault small moved no_read no_print ends read print takes = ends
+is_checked old new before after taken (Damaged place why) small moved no_read no_print ends read print takes = ends
+is_checked old new before after taken (OtherDay k) small moved no_read no_print ends read print takes = ends
 is_checked old new before after taken (LongLine k) small moved no_read no_print ends read print takes = ends
 is_checked old new before after taken LongFile small moved no_read no_print ends read print takes =
     absurd (omega (arith, small, takes, ap length moved, length-append taken new.left))
+is_checked old new before after taken (JournalFull need left) small moved no_read no_print ends read print takes = ends
+is_checked old new before after taken (NoGate place) small moved no_read no_print ends read print takes = ends
+is_checked old new before after taken (BadFrame place) small moved no_read no_print ends read print takes = ends
 is_checked old new before after taken OutOfMemory small moved no_read no_print ends read print takes = tt
 
 -- a run from its parts
 checked : (s t : Bool) (old new : Feed) (before after : Sight) (status : Status) (taken text : List ℕ) → EndsCheck status → (status ≡ ReadFault → Rose old.faults new.faults) →
     (status ≡ PrintFault → Rose before.print_faults after.print_faults) → old.faults ≤ new.faults → Quiet t before after → (IsTrue s → old.left ≡ taken ++ new.left) →
     (IsTrue s → CheckTakes status taken new.left) → CheckFinds status taken text → (IsTrue t → CheckPrints status text before after) →
-    (IsTrue t → LeavesOnly (LeavesDay before text) before after) → CheckRun s t old new before after status
+    (IsTrue t → LeavesOnly (LeavesText before text) before after) → CheckRun s t old new before after status
 checked s t old new before after status taken text ends read print faults quiet moved far finds printed stops = record {
   statuses = ends;
   read_fault = read;
@@ -87,7 +91,7 @@ unread s t old new sight inputs.OutOfMemory wants =
 -- the input was read whole
 module _ (s t : Bool) (old new : Feed) (bytes : List ℕ) (whole : TakesWhole s most_checked old bytes new) where
   all_said : (before after : Sight) (verdict : Verdict) (text : List ℕ) → Says bytes verdict text → Quiet t before after → (IsTrue t → after.printed ≡ before.printed ++ text) →
-      (IsTrue t → LeavesOnly (LeavesDay before text) before after) → CheckRun s t old new before after (status_of_verdict verdict)
+      (IsTrue t → LeavesOnly (LeavesText before text) before after) → CheckRun s t old new before after (status_of_verdict verdict)
   all_said before after (verdicts.Valid figures) text says quiet printed stops =
       checked s t old new before after Done bytes text tt (λ is. absurd (Prim.cc)) (λ is. absurd (Prim.cc)) (omega (arith, whole.gathers.quiet)) quiet whole.gathers.moved
       (λ told. (whole.gathers.within, whole.end told)) (figures, says) printed stops

@@ -1,11 +1,6 @@
 pub mod Printing
 pub mod Sizes
 pub mod Stopping
-pub mod ReadingOn
-pub mod Long
-pub mod Endings
-pub mod Days
-pub mod SoFar
-pub mod Choosing
+pub mod Twice
 pub mod Gathering
 pub mod Checking

@@ -1,7 +1,8 @@
 use Rattle.std.proofs.Common.{◌≡◌, ◌∙◌, ℕ, ◌≤◌, Bool, true, false, List, [], ◌∷◌, ◌++◌, take, drop, refl, sym, ap, subst, arith, append_assoc, append-nil}
 use Rattle.std.proofs.lemmas.List.{take-append-drop}
 use Rattle.dali_outside.specs.Outside.{Sight, Prints, Goes}
-use Rattle.dali_desk.specs.DayRun.{IsFront, PrintsFront}
+use Rattle.dali_register.specs.Front.{IsFront, PrintsFront}
+use Rattle.dali_desk.specs.Texts.{Quiet}
 
 -- of a text this was printed since old, and this is still to come
 pub record SoFar (text later : List ℕ) (old new : Sight) : Type 0 where
@@ -72,3 +73,7 @@ goes_on a b c first second = record { same_size = second.same_size ∙ first.sam
 
 pub goes_nowhere : (a : Sight) → Goes a a
 goes_nowhere a = record { same_size = refl; disk = omega arith; print = omega arith }
+
+-- before the first call nothing was written
+pub quiet_start : (told : Bool) (s : Sight) → Quiet told s s
+quiet_start told s = record { goes = goes_nowhere s; disk = λ t. record { bytes = refl; loose = refl }; syncs = omega arith }

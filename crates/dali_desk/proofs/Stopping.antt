@@ -3,14 +3,15 @@ use Rattle.std.proofs.lemmas.List.{take-append-drop}
 use Rattle.dali_outside.specs.Outside.{Sight, Prints, SameDisk, now, printing}
 use Rattle.dali_outside.specs.Stops.{IsImage, MayLeave, Keeps, LeavesOnly}
 use Rattle.dali_outside.proofs.Moments.{leaves_start, leaves_put, leaves_on, leaves_weaker}
-use Rattle.dali_desk.specs.DayRun.{IsFront, LeavesDay}
+use Rattle.dali_register.specs.Front.{IsFront}
+use Rattle.dali_desk.specs.Texts.{LeavesText}
 
 take_none : (n : ℕ) → take {A = ℕ} n [] ≡ []
 take_none zero = refl
 take_none (suc n) = refl
 
 -- nothing is printed of a text yet
-start_keeps : (s : Sight) (text : List ℕ) → Keeps (LeavesDay s text) (now s)
+start_keeps : (s : Sight) (text : List ℕ) → Keeps (LeavesText s text) (now s)
 start_keeps s text image left may = record {
   disk = may.disk;
   shown = [];
@@ -18,8 +19,8 @@ start_keeps s text image left may = record {
   front = record { rest = text; parts = refl };
 }
 
-pub stops_start : (s : Sight) (text : List ℕ) → LeavesOnly (LeavesDay s text) s s
-stops_start s text = leaves_start (LeavesDay s text) s (start_keeps s text)
+pub stops_start : (s : Sight) (text : List ℕ) → LeavesOnly (LeavesText s text) s s
+stops_start s text = leaves_start (LeavesText s text) s (start_keeps s text)
 
 -- what a put printed is a front of its piece
 went_front : (worked : Bool) (piece : List ℕ) (old new : Sight) (prints : Prints worked piece old new) → IsFront prints.went piece
@@ -32,10 +33,10 @@ went_front false piece old new prints =
     }
 
 -- a put of a piece, whether it worked or not
-pub put_stops : (worked : Bool) (piece : List ℕ) (old new : Sight) → Prints worked piece old new → SameDisk old new → LeavesOnly (LeavesDay old piece) old new
+pub put_stops : (worked : Bool) (piece : List ℕ) (old new : Sight) → Prints worked piece old new → SameDisk old new → LeavesOnly (LeavesText old piece) old new
 put_stops worked piece old new prints same =
     let front : IsFront prints.went piece = went_front worked piece old new prints in
-    leaves_put (LeavesDay old piece) old old (stops_start old piece) new prints.went prints.past
+    leaves_put (LeavesText old piece) old old (stops_start old piece) new prints.went prints.past
     (λ image left may. record {
       disk = may.disk;
       shown = take may.n prints.went;
@@ -54,11 +55,11 @@ put_stops worked piece old new prints same =
     })
 
 -- a front of a text, and of what comes behind it
-pub stops_more : (text piece : List ℕ) (old mid new : Sight) → LeavesOnly (LeavesDay old text) old mid → LeavesOnly (LeavesDay mid piece) mid new → SameDisk old mid →
-    mid.printed ≡ old.printed ++ text → LeavesOnly (LeavesDay old (text ++ piece)) old new
+pub stops_more : (text piece : List ℕ) (old mid new : Sight) → LeavesOnly (LeavesText old text) old mid → LeavesOnly (LeavesText mid piece) mid new → SameDisk old mid →
+    mid.printed ≡ old.printed ++ text → LeavesOnly (LeavesText old (text ++ piece)) old new
 stops_more text piece old mid new first second same printed =
-    leaves_on (LeavesDay old (text ++ piece)) old mid
-    (leaves_weaker (LeavesDay old text) (LeavesDay old (text ++ piece)) old mid (λ image left may. record {
+    leaves_on (LeavesText old (text ++ piece)) old mid
+    (leaves_weaker (LeavesText old text) (LeavesText old (text ++ piece)) old mid (λ image left may. record {
       disk = may.disk;
       shown = may.shown;
       printed = may.printed;
@@ -68,7 +69,7 @@ stops_more text piece old mid new first second same printed =
       };
     }) first)
     new
-    (leaves_weaker (LeavesDay mid piece) (LeavesDay old (text ++ piece)) mid new (λ image left may. record {
+    (leaves_weaker (LeavesText mid piece) (LeavesText old (text ++ piece)) mid new (λ image left may. record {
       disk = subst (λ bs. IsImage bs old.loose image) same.bytes (subst (λ ls. IsImage mid.bytes ls image) same.loose may.disk);
       shown = text ++ may.shown;
       printed = may.printed ∙ ap (λ xs. xs ++ may.shown) printed ∙ append_assoc old.printed text may.shown;

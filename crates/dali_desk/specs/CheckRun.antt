@@ -10,10 +10,11 @@ use Rattle.dali_verdict.specs.declared.verdict.Verdict.{Verdict}
 use Rattle.dali_verdict.specs.declared.verdict.Verdict.TheVariants as verdicts
 use Rattle.dali_verdict.specs.Verdict.{IsVerdict}
 use Rattle.dali_verdict.specs.VerdictLine.{verdict_line}
-use Rattle.dali_desk.specs.DayRun.{PrintsFront, LeavesDay}
+use Rattle.dali_register.specs.Front.{PrintsFront}
+use Rattle.dali_desk.specs.Texts.{LeavesText}
 use Rattle.dali_desk.specs.Limits.{most_checked}
 use Rattle.dali_desk.specs.declared.status.Status.{Status}
-use Rattle.dali_desk.specs.declared.status.Status.TheVariants.{Done, Invalid, Usage, ReadFault, PrintFault, DiskFault, LongLine, LongFile, OutOfMemory}
+use Rattle.dali_desk.specs.declared.status.Status.TheVariants.{Done, Invalid, Usage, ReadFault, PrintFault, DiskFault, Damaged, OtherDay, LongLine, LongFile, JournalFull, OutOfMemory, NoGate, BadFrame}
 
 -- the statuses of `check`
 abbrev pub EndsCheck : Status → Type 0
@@ -23,9 +24,14 @@ EndsCheck Usage = ⊥
 EndsCheck ReadFault = Unit {0}
 EndsCheck PrintFault = Unit {0}
 EndsCheck DiskFault = ⊥
+EndsCheck (Damaged place why) = ⊥
+EndsCheck (OtherDay k) = ⊥
 EndsCheck (LongLine k) = ⊥
 EndsCheck LongFile = Unit {0}
+EndsCheck (JournalFull need left_over) = ⊥
 EndsCheck OutOfMemory = Unit {0}
+EndsCheck (NoGate place) = ⊥
+EndsCheck (BadFrame place) = ⊥
 
 -- how much of the input was taken when the status came: all of it, at most what it may have, or one byte more
 abbrev pub CheckTakes : Status → List ℕ → List ℕ → Type 0
@@ -35,9 +41,14 @@ CheckTakes Usage taken left = ⊥
 CheckTakes ReadFault taken left = length taken ≤ most_checked
 CheckTakes PrintFault taken left = (length taken ≤ most_checked) × (left ≡ [])
 CheckTakes DiskFault taken left = ⊥
+CheckTakes (Damaged place why) taken left = ⊥
+CheckTakes (OtherDay k) taken left = ⊥
 CheckTakes (LongLine k) taken left = ⊥
 CheckTakes LongFile taken left = length taken ≡ most_checked + 1
+CheckTakes (JournalFull need left_over) taken left = ⊥
 CheckTakes OutOfMemory taken left = length taken ≤ most_checked
+CheckTakes (NoGate place) taken left = ⊥
+CheckTakes (BadFrame place) taken left = ⊥
 
 -- this text is the line that says the verdict on these bytes
 pub record Says (bytes : List ℕ) (verdict : Verdict) (text : List ℕ) : Type 0 where
@@ -53,9 +64,14 @@ CheckFinds Usage taken text = ⊥
 CheckFinds ReadFault taken text = text ≡ []
 CheckFinds PrintFault taken text = (verdict : Verdict) × Says taken verdict text
 CheckFinds DiskFault taken text = ⊥
+CheckFinds (Damaged place why) taken text = ⊥
+CheckFinds (OtherDay k) taken text = ⊥
 CheckFinds (LongLine k) taken text = ⊥
 CheckFinds LongFile taken text = text ≡ []
+CheckFinds (JournalFull need left_over) taken text = ⊥
 CheckFinds OutOfMemory taken text = text ≡ []
+CheckFinds (NoGate place) taken text = ⊥
+CheckFinds (BadFrame place) taken text = ⊥
 
 -- what was printed when the status came: the whole text, and after a print fault a front of it; where nothing was judged,
 -- nothing was done to the site
@@ -66,9 +82,14 @@ CheckPrints Usage text old new = ⊥
 CheckPrints ReadFault text old new = new ≡ old
 CheckPrints PrintFault text old new = PrintsFront text old new
 CheckPrints DiskFault text old new = ⊥
+CheckPrints (Damaged place why) text old new = ⊥
+CheckPrints (OtherDay k) text old new = ⊥
 CheckPrints (LongLine k) text old new = ⊥
 CheckPrints LongFile text old new = new ≡ old
+CheckPrints (JournalFull need left_over) text old new = ⊥
 CheckPrints OutOfMemory text old new = new ≡ old
+CheckPrints (NoGate place) text old new = ⊥
+CheckPrints (BadFrame place) text old new = ⊥
 
 -- the whole input was judged, or memory was wanted
 abbrev pub IsChecked : Status → Type 0
@@ -78,9 +99,14 @@ IsChecked Usage = ⊥
 IsChecked ReadFault = ⊥
 IsChecked PrintFault = ⊥
 IsChecked DiskFault = ⊥
+IsChecked (Damaged place why) = ⊥
+IsChecked (OtherDay k) = ⊥
 IsChecked (LongLine k) = ⊥
 IsChecked LongFile = ⊥
+IsChecked (JournalFull need left_over) = ⊥
 IsChecked OutOfMemory = Unit {0}
+IsChecked (NoGate place) = ⊥
+IsChecked (BadFrame place) = ⊥
 
 -- What a run of `check` does: it reads the whole input, judges it, and prints the one line that says the verdict. Done
 -- says that the input is a block of an allowed choice, and Invalid that it is none.
@@ -101,7 +127,7 @@ pub record CheckRun (source_tells site_tells : Bool) (old new : Feed) (before af
   -- a block of an allowed choice is never called invalid
   pub valid : IsTrue source_tells → (b : Block) → Spells old.left b → Allowed b.problem b.budget b.choice → (why : Why) → status ≢ Invalid why
   -- at every moment since the start a stop leaves a disk that it might have left at the start, and a front of the text
-  pub stops : IsTrue site_tells → LeavesOnly (LeavesDay before text) before after
+  pub stops : IsTrue site_tells → LeavesOnly (LeavesText before text) before after
   -- the disk is as before, and nothing was synced
   pub disk : IsTrue site_tells → SameDisk before after
   pub syncs : after.syncs ≤ before.syncs

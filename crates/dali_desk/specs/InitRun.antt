@@ -4,7 +4,7 @@ use Rattle.dali_outside.specs.Stops.{LeavesOnly}
 use Rattle.dali_journal.specs.Holds.{empty_start}
 use Rattle.dali_journal.specs.Appends.{IsFirm, AtRest, EachHolds, Torn, StaysOutside}
 use Rattle.dali_desk.specs.declared.status.Status.{Status}
-use Rattle.dali_desk.specs.declared.status.Status.TheVariants.{Done, Invalid, Usage, ReadFault, PrintFault, DiskFault, LongLine, LongFile, OutOfMemory}
+use Rattle.dali_desk.specs.declared.status.Status.TheVariants.{Done, Invalid, Usage, ReadFault, PrintFault, DiskFault, Damaged, OtherDay, LongLine, LongFile, JournalFull, OutOfMemory, NoGate, BadFrame}
 
 -- the statuses of `init`
 abbrev pub EndsInit : Status → Type 0
@@ -14,9 +14,14 @@ EndsInit Usage = ⊥
 EndsInit ReadFault = ⊥
 EndsInit PrintFault = ⊥
 EndsInit DiskFault = Unit {0}
+EndsInit (Damaged place why) = ⊥
+EndsInit (OtherDay k) = ⊥
 EndsInit (LongLine k) = ⊥
 EndsInit LongFile = ⊥
+EndsInit (JournalFull need left_over) = ⊥
 EndsInit OutOfMemory = ⊥
+EndsInit (NoGate place) = ⊥
+EndsInit (BadFrame place) = ⊥
 
 -- What a run of `init` does. After Done nothing is loose and the device holds an empty journal of edition 1, and so does
 -- every image that a stop may then leave. Any status but Done is DiskFault, which comes only where the count of disk faults

@@ -3,8 +3,8 @@ use Rattle.dali_outside.specs.Outside.{Sight, Rose}
 use Rattle.dali_outside.specs.Stops.{LeavesOnly}
 use Rattle.dali_verdict.specs.declared.verdict.Verdict.{Verdict}
 use Rattle.dali_verdict.specs.declared.verdict.Verdict.TheVariants as verdicts
-use Rattle.dali_desk.specs.DayRun.{PrintsFront, LeavesDay}
-use Rattle.dali_desk.specs.DaySoFar.{Quiet}
+use Rattle.dali_register.specs.Front.{PrintsFront}
+use Rattle.dali_desk.specs.Texts.{LeavesText, Quiet}
 use Rattle.dali_desk.specs.CheckRun.{Says}
 use Rattle.dali_desk.specs.declared.input.InputNo.{InputNo}
 use Rattle.dali_desk.specs.declared.input.InputNo.TheVariants as inputs
@@ -32,7 +32,7 @@ pub record SaysAll (told : Bool) (bytes : List ℕ) (before after : Sight) (stat
   pub is : status ≡ status_of_verdict verdict
   pub quiet : Quiet told before after
   pub printed : IsTrue told → after.printed ≡ before.printed ++ text
-  pub stops : IsTrue told → LeavesOnly (LeavesDay before text) before after
+  pub stops : IsTrue told → LeavesOnly (LeavesText before text) before after
 
 -- the put of the verdict failed
 pub record SaysInPart (told : Bool) (bytes : List ℕ) (before after : Sight) : Type 0 where
@@ -42,7 +42,7 @@ pub record SaysInPart (told : Bool) (bytes : List ℕ) (before after : Sight) : 
   pub rose : Rose before.print_faults after.print_faults
   pub quiet : Quiet told before after
   pub front : IsTrue told → PrintsFront text before after
-  pub stops : IsTrue told → LeavesOnly (LeavesDay before text) before after
+  pub stops : IsTrue told → LeavesOnly (LeavesText before text) before after
 
 -- how it ended: the verdict was said, or in part, or memory was wanted and nothing was done
 abbrev pub Judges : Bool → List ℕ → Sight → Sight → Status → Type 0

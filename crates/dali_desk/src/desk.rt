@@ -1,11 +1,11 @@
 ghost use Rattle.std.specs.Prelude.{◌≡◌, ◌↔◌, ℕ};
 ghost use Rattle.dali_desk.specs.Words.{IsJob};
 ghost use Rattle.dali_desk.specs.CheckRun.{CheckRun};
-ghost use Rattle.dali_desk.specs.DayRun.{DayRun};
+ghost use Rattle.dali_desk.specs.DayOver.{DayOver};
 ghost use Rattle.dali_desk.specs.InitRun.{InitRun};
 
 use crate::check::check_input;
-use crate::day::take_day;
+use crate::day::run_day;
 use crate::init::make_journal;
 use crate::job::{Job, plan};
 use crate::status::Status;
@@ -16,20 +16,20 @@ use std::alloc::Global;
 /// Does what the words ask for, with `day` as its input and `site` as its disk and console, and answers how it ended.
 ///
 /// The table of words is defined in `specs/Words.antt`, what a run of `init` does in `specs/InitRun.antt`, what one of
-/// `check` does in `specs/CheckRun.antt`, and what one of `day` does in `specs/DayRun.antt`; a day doesn't use its journal yet, and is one of edition 1. With words that
-/// are none of the table nothing is read, written or printed. Where the words are `init JOURNAL SIZE`, the site's size
-/// is SIZE. A day that answers want of memory has taken and printed what came before.
+/// `check` does in `specs/CheckRun.antt`, and what one of `day` does in `specs/DayOver.antt`, over its journal. With words
+/// that are none of the table nothing is read, written or printed. Where the words are `init JOURNAL SIZE`, the site's
+/// size is SIZE.
 pub fn run<S: Source, T: Site>(alloc: Global, words: &Words, day: &mut S, site: &mut T) -> Status
     requires size { (size : ℕ) → IsJob words.now (Job.Init size) → (T.sight site.old).size ≡ size }
     ensures usage { (result ≡ Status.Usage) ↔ ((job : _) → IsJob words.now job → ⊥) }
     ensures untouched { result ≡ Status.Usage → (S.feed day.new ≡ S.feed day.old) × (T.sight site.new ≡ T.sight site.old) }
     ensures init { (size : ℕ) → IsJob words.now (Job.Init size) → (S.feed day.new ≡ S.feed day.old) × InitRun T.tells (T.sight site.old) (T.sight site.new) result }
     ensures check { IsJob words.now Job.Check → CheckRun S.tells T.tells (S.feed day.old) (S.feed day.new) (T.sight site.old) (T.sight site.new) result }
-    ensures day { IsJob words.now Job.Day → DayRun S.tells T.tells (S.feed day.old) (S.feed day.new) (T.sight site.old) (T.sight site.new) result }
+    ensures day { IsJob words.now Job.Day → DayOver S.tells T.tells (S.feed day.old) (S.feed day.new) (T.sight site.old) (T.sight site.new) result }
 {
     match plan(words) {
         Ok(Job::Init { .. }) => make_journal(site),
-        Ok(Job::Day) => take_day(alloc, day, site),
+        Ok(Job::Day) => run_day(alloc, day, site),
         Ok(Job::Check) => check_input(alloc, day, site),
         Err(_) => Status::Usage,
     }

@@ -1,6 +1,6 @@
 ghost use Rattle.std.specs.Prelude.{◌≡◌, ◌≤◌, [], ◌∷◌, codes, decimal, IfOk};
 
-use crate::{Job, Status, Usage, Why, exit_number, plan, run, status_line};
+use crate::{Damage, Job, Status, Usage, Why, exit_number, plan, run, status_line};
 use dali_base::{OutOfMemory, Text, Words};
 use dali_outside::{Fault, Faults, MemSite, MemSource};
 use std::alloc::Global;
@@ -72,7 +72,7 @@ fn no_words(rt: HostRuntime) -> Result<(), Fail> {
 
 #[test]
 fn status_lines(rt: HostRuntime) {
-    let cases: [(Status, &[u8], u8); 10] = [
+    let cases: [(Status, &[u8], u8); 17] = [
         (Status::Done, b"", 0),
         (Status::Invalid(Why::Form { line: 1 }), b"dali: invalid", 1),
         (
@@ -93,7 +93,47 @@ fn status_lines(rt: HostRuntime) {
             b"dali: long line at command 18446744073709551615",
             8,
         ),
+        (
+            Status::Damaged {
+                place: 16,
+                why: Damage::Length,
+            },
+            b"dali: damaged at 16: length",
+            6,
+        ),
+        (
+            Status::Damaged {
+                place: u64::MAX,
+                why: Damage::Illegal,
+            },
+            b"dali: damaged at 18446744073709551615: illegal",
+            6,
+        ),
+        (
+            Status::OtherDay { command: 2 },
+            b"dali: other day at command 2",
+            7,
+        ),
         (Status::LongFile, b"dali: long file", 9),
+        (
+            Status::JournalFull { need: 23, left: 4 },
+            b"dali: journal full: need 23, left 4",
+            10,
+        ),
+        (
+            Status::JournalFull {
+                need: u64::MAX,
+                left: u64::MAX,
+            },
+            b"dali: journal full: need 18446744073709551615, left 18446744073709551615",
+            10,
+        ),
+        (
+            Status::NoGate { place: 0 },
+            b"dali: no gateway input at 0",
+            12,
+        ),
+        (Status::BadFrame { place: 96 }, b"dali: bad frame at 96", 13),
         (Status::OutOfMemory, b"dali: out of memory", 11),
     ];
     for (status, line, number) in cases {

@@ -1,8 +1,8 @@
 ghost use Rattle.std.specs.Prelude.{false, []};
 
-use crate::stage::{day, day_over, text};
+use crate::stage::{day, day_over};
 use dali_desk::Status;
-use dali_outside::{Failed, Fault, Faults, MemSource, Source};
+use dali_outside::{Failed, Fault, Source};
 use std::test::Fail;
 
 const THREE_LINES: &[u8] = b"080000,PART,A\n080000,PART,B\n080001,ISSUE,A,MXN,100\n";
@@ -22,18 +22,6 @@ fn take_fails(rt: HostRuntime) -> Result<(), Fail> {
         assert_eq!(rt; status, Status::ReadFault);
         assert_eq!(rt; printed.bytes(), replies);
     }
-    Ok(())
-}
-
-/// A put that fails in the middle of a reply leaves the replies before it whole.
-#[test]
-fn put_fails(rt: HostRuntime) -> Result<(), Fail> {
-    let alloc = rt.alloc();
-    let mut source = MemSource::new(text(alloc, THREE_LINES)?, 20, Faults::new(alloc));
-    let fault = Fault { call: 2, went: 2 };
-    let (status, printed) = day_over(alloc, &mut source, Some(fault))?;
-    assert_eq!(rt; status, Status::PrintFault);
-    assert_eq!(rt; printed.bytes(), b"1,OK\n2,".as_slice());
     Ok(())
 }
 
@@ -64,7 +52,7 @@ impl Source for Endless {
 #[test]
 fn long_file(rt: HostRuntime) -> Result<(), Fail> {
     let mut source = Endless { begun: false };
-    let (status, printed) = day_over(rt.alloc(), &mut source, None)?;
+    let (status, printed) = day_over(rt.alloc(), &mut source)?;
     assert_eq!(rt; status, Status::LongFile);
     assert_eq!(rt; printed.bytes(), b"1,OK\n".as_slice());
     Ok(())
