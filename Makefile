@@ -4,7 +4,8 @@ CRATES ?=
 
 .PHONY: demo build test quick edits outside try bench
 
-# Shows a gridlock freed within two minutes: by the built program, or by the same sources before their proof.
+# Shows a gridlock freed, over a journal: by the built program, which is killed and run again, or by the same sources before
+# their proof.
 demo:
 	tools/demo
 
@@ -23,14 +24,15 @@ quick:
 # What the built program does at the edge of the machine.
 outside: build
 	tests/outside/run
+	tests/outside/killed
 
 # The wrong bodies that stand outside the gate, in a copy: make edits CRATES="dali_base dali_line"
 edits:
 	tools/edits $(CRATES)
 
-# Runs the program on a file before any proof: make try DAY=FILE
+# Runs the program on a file before any proof, over an empty journal: make try DAY=FILE
 try:
-	cd crates/dali && rt try -- day J < $(abspath $(DAY))
+	tools/try $(DAY)
 
 # Times the proved program, the journal and the checker.
 bench: build
