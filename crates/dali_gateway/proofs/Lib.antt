@@ -1,0 +1,11 @@
+pub mod Numbers
+pub mod Leaving
+pub mod Tails
+pub mod Gates
+pub mod Cutting
+pub mod Merging
+pub mod Turns
+pub mod Readers
+pub mod Giving
+pub mod Unmet
+pub mod Reached

@@ -1,0 +1,12 @@
+pub mod Limits
+pub mod Merge
+pub mod Form
+pub mod Order
+pub mod Language
+pub mod Refusal
+pub mod Gateway
+pub mod Inboxes
+pub mod InboxLayout
+pub mod GateLayout
+pub use Rattle.dali_line.specs.Commands
+pub use Rattle.dali_outside.specs.Outside
