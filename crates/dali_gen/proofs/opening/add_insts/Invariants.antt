@@ -1,0 +1,7 @@
+use Rattle.std.proofs.Common.{◌≡◌, ◌++◌, map}
+use Rattle.std.specs.List.{range_with_len}
+use Rattle.dali_gen.specs.Day.{text_of, inst_line}
+use Rattle.dali_gen.proofs.opening.add_insts.Given as goal
+
+abbrev pub invariant-loop-code : goal.invariant-loop-code
+invariant-loop-code l = l.text ≡ l.initial.text ++ text_of (map (inst_line l.n) (range_with_len 0 l.code))

@@ -1,0 +1,4 @@
+pub mod Limits
+pub mod Draws
+pub mod Instructions
+pub mod Day
