@@ -1,0 +1,5 @@
+pub mod Putting
+pub mod Recovering
+pub mod Exporting
+pub mod Editing
+pub mod Raising

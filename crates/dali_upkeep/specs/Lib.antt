@@ -1,0 +1,13 @@
+pub mod ExportRun
+pub mod Printing
+pub mod Editions
+pub mod RaiseRun
+pub mod Raising
+pub use Rattle.dali_outside.specs.Outside
+pub use Rattle.dali_outside.specs.Stops
+pub use Rattle.dali_journal.specs.Holds
+pub use Rattle.dali_journal.specs.Appends
+pub use Rattle.dali_machine.specs.History
+pub use Rattle.dali_statement.specs.Export
+pub use Rattle.dali_recover.specs.Spells
+pub use Rattle.dali_recover.specs.Damaged
