@@ -31,6 +31,7 @@ pub(crate) fn read_inboxes(
     let mut inboxes = Vec::new(alloc);
     let mut rest = bytes;
     'inboxes: for _ in 0..count {
+        // Memory is taken for bytes that are there, and never by a size that is named alone.
         let (inbox, behind) = read_inbox(rest)?;
         let mut text = Text::new(alloc);
         text.add(inbox)?;

@@ -1,4 +1,4 @@
-ghost use Rattle.std.specs.Prelude.{◌≡◌, ◌≤◌, ◌<◌, ◌++◌, ◌∷◌, [], true, false, length, take, drop, map, All, Option, Some, None, is_ok, IfOk, OnOk, OnErr, IfSome, IfNone, MatchOption, slice_index_or};
+ghost use Rattle.std.specs.Prelude.{◌≡◌, ◌≤◌, ◌<◌, ◌++◌, [], true, length, take, drop, map, All, is_ok, IfOk, OnOk, OnErr, IfSome, IfNone, slice_index_or};
 ghost use Rattle.dali_outside.specs.Outside.{Rose, Takes};
 ghost use Rattle.dali_gateway.specs.Limits.{most_inboxes, most_turns};
 ghost use Rattle.dali_gateway.specs.Gateway.{feed_of, whole_of, queue, unopened, pending};

@@ -1,4 +1,4 @@
-ghost use Rattle.std.specs.Prelude.{◌≡◌, ◌-◌, ◌≤◌, ◌<◌, ◌==◌, ◌∷◌, ◌++◌, [], Bool, true, false, length, take, drop, min, position, IsTrue, IfSome, IfNone};
+ghost use Rattle.std.specs.Prelude.{◌≡◌, ◌-◌, ◌≤◌, ◌<◌, ◌==◌, ◌∷◌, ◌++◌, [], false, length, take, drop, min, position, IsTrue, IfSome, IfNone};
 ghost use Rattle.std.specs.Str.Lines.{strip_carriage_return};
 ghost use Rattle.dali_line.specs.Commands.{is_command as begins_command, commands};
 ghost use Rattle.dali_gateway.specs.Gateway.{unopened};

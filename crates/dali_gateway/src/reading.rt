@@ -15,8 +15,7 @@ use std::alloc::Global;
 /// The gate of a gateway input, of which nothing was taken: the bytes are the one spelling of its inboxes and turns
 /// (`specs/Form.antt`), and the bytes left are their merge (`specs/Merge.antt`), which keeps each inbox's order
 /// (`specs/Order.antt`). `Form` comes exactly where the bytes are no gateway input; its place, counted in bytes from 0, is
-/// the length of their longest front with which some gateway input begins. The other error is want of memory, of which at
-/// most a few times the length of the bytes is taken.
+/// the length of their longest front with which some gateway input begins. The other error is want of memory.
 pub fn read_gate(alloc: Global, bytes: &[u8]) -> Result<Gate, GateNo>
     ensures found { IfOk result (λ gate. Spells bytes.now gate.inboxes gate.turns) }
     ensures merge { IfOk result (λ gate. gate.left ≡ merge gate.inboxes gate.turns) }

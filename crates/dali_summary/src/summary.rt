@@ -34,7 +34,8 @@ impl Model for Summary {
 impl Summary {
     /// A summary of no answers. Takes no memory.
     pub fn new(alloc: Global) -> Summary
-        ensures { result ≡ tally_of [] }
+        ensures tally { result ≡ tally_of [] }
+        ensures counted { result.commands ≡ 0 }
     {
         Summary {
             commands: 0,
