@@ -2,7 +2,7 @@
 DAY ?= examples/first.day
 CRATES ?=
 
-.PHONY: demo build test quick edits outside try bench audit
+.PHONY: demo build test quick edits outside try bench examples audit
 
 # Shows a gridlock freed, over a journal: by the built program, which is killed and run again, or by the same sources before
 # their proof.
@@ -39,6 +39,10 @@ bench: build
 	bench/day/run
 	bench/journal/run
 	bench/checker/run
+
+# Runs each example and compares its replies.
+examples:
+	examples/run
 
 # Judges the program from outside: random days by every reply, their blocks and a thousand broken ones by two checkers.
 audit:
