@@ -1,8 +1,9 @@
 # Thin: each target is a line or two.
 DAY ?= examples/first.day
 CRATES ?=
+PREFIX ?= /usr/local
 
-.PHONY: demo build test quick edits outside try bench examples audit
+.PHONY: demo build test quick edits outside try bench examples audit install deb
 
 # Shows a gridlock freed, over a journal: by the built program, which is killed and run again, or by the same sources before
 # their proof.
@@ -47,3 +48,11 @@ examples:
 # Judges the program from outside: random days by every reply, their blocks and a thousand broken ones by two checkers.
 audit:
 	audit/audit.py
+
+# Installs the built program, manual pages, completion, documents and examples: make install PREFIX=/usr/local
+install:
+	tools/install $(PREFIX) $(DESTDIR)
+
+# Packs the same as a package of Debian, in out/.
+deb:
+	tools/deb
