@@ -3,7 +3,7 @@ DAY ?= examples/first.day
 CRATES ?=
 PREFIX ?= /usr/local
 
-.PHONY: demo build test quick edits outside try bench examples audit install deb
+.PHONY: demo build test quick edits outside try bench examples audit install deb recipes
 
 # Shows a gridlock freed, over a journal: by the built program, which is killed and run again, or by the same sources before
 # their proof.
@@ -44,6 +44,10 @@ bench: build
 # Runs each example and compares its replies.
 examples:
 	examples/run
+
+# Tries the commands of the operator's page, and compares what they print.
+recipes:
+	tools/recipes docs/OPERATING.md
 
 # Judges the program from outside: random days by every reply, their blocks and a thousand broken ones by two checkers.
 audit:
