@@ -3,7 +3,7 @@ DAY ?= examples/first.day
 CRATES ?=
 PREFIX ?= /usr/local
 
-.PHONY: demo build test quick edits outside try bench examples audit install deb recipes
+.PHONY: demo build test quick edits outside blocks try bench examples audit install deb recipes
 
 # Shows a gridlock freed, over a journal: by the built program, which is killed and run again, or by the same sources before
 # their proof.
@@ -27,6 +27,10 @@ outside: build
 	tests/outside/run
 	tests/outside/killed
 
+# A million changed and made-up blocks, given to the built program.
+blocks: build
+	tests/blocks/run
+
 # The wrong bodies that stand outside the gate, in a copy: make edits CRATES="dali_base dali_line"
 edits:
 	tools/edits $(CRATES)
@@ -35,11 +39,13 @@ edits:
 try:
 	tools/try $(DAY)
 
-# Times the proved program, the journal and the checker.
+# Times the proved program, the journal, the checker, the search and `check`.
 bench: build
 	bench/day/run
 	bench/journal/run
 	bench/checker/run
+	bench/search/run
+	bench/check/run
 
 # Runs each example and compares its replies.
 examples:
