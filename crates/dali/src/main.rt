@@ -44,8 +44,8 @@ fn main(rt: HostRuntime) -> ExitCode {
     end(&status, &mut rt.stderr())
 }
 
-/// The site of these words: the file that the second one names, and standard output. Only `init` makes a file. `check` uses
-/// none, and where the file can't be had, the site has none.
+/// The site of these words: the file that the second one names, and standard output. Only `init` makes a file. `check` and
+/// `gen` use none, and where the file can't be had, the site has none.
 fn site_of(rt: &HostRuntime, words: &Words) -> FileSite<File, Stdout>
     ensures { (size : ℕ) → IsJob words.now (Job.Init size) → result.size ≡ size }
 {
@@ -56,11 +56,11 @@ fn site_of(rt: &HostRuntime, words: &Words) -> FileSite<File, Stdout>
     let stdout = rt.stdout();
     match plan(words) {
         Ok(Job::Init { size }) => FileSite::new(create_file(rt, path, size), size, stdout),
-        Ok(Job::Day) => match open_file(rt, path) {
+        Ok(Job::Day | Job::Export | Job::Raise) => match open_file(rt, path) {
             Some((file, size)) => FileSite::new(Some(file), size, stdout),
             None => FileSite::new(None, 0, stdout),
         },
-        Ok(Job::Check) => FileSite::new(None, 0, stdout),
+        Ok(Job::Check | Job::Gen { .. }) => FileSite::new(None, 0, stdout),
         Err(_) => FileSite::new(None, 0, stdout),
     }
 }

@@ -1,4 +1,5 @@
 pub mod Printing
+pub mod Jobs
 pub mod Sizes
 pub mod Stopping
 pub mod Twice

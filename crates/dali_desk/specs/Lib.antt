@@ -4,6 +4,7 @@ pub mod StatusLine
 pub mod Texts
 pub mod DayOver
 pub mod Twice
+pub mod Upkeep
 pub mod InitRun
 pub mod Input
 pub mod CheckRun
@@ -11,6 +12,10 @@ pub mod Judging
 pub use Rattle.dali_day.specs.DayRun
 pub use Rattle.dali_day.specs.Promises
 pub use Rattle.dali_register.specs.Front
+pub use Rattle.dali_upkeep.specs.ExportRun
+pub use Rattle.dali_upkeep.specs.RaiseRun
+pub use Rattle.dali_gen.specs.Day
+pub use Rattle.dali_put.specs.PutRun
 pub use Rattle.dali_outside.specs.Outside
 pub use Rattle.dali_outside.specs.Stops
 pub use Rattle.dali_journal.specs.Holds

@@ -3,12 +3,14 @@ ghost use Rattle.dali_desk.specs.Words.{IsJob};
 ghost use Rattle.dali_desk.specs.CheckRun.{CheckRun};
 ghost use Rattle.dali_desk.specs.DayOver.{DayOver};
 ghost use Rattle.dali_desk.specs.InitRun.{InitRun};
+ghost use Rattle.dali_desk.specs.Upkeep.{ExportOver, GenOver, RaiseOver};
 
 use crate::check::check_input;
 use crate::day::run_day;
 use crate::init::make_journal;
 use crate::job::{Job, plan};
 use crate::status::Status;
+use crate::upkeep::{run_export, run_gen, run_raise};
 use dali_base::Words;
 use dali_outside::{Site, Source};
 use std::alloc::Global;
@@ -16,7 +18,8 @@ use std::alloc::Global;
 /// Does what the words ask for, with `day` as its input and `site` as its disk and console, and answers how it ended.
 ///
 /// The table of words is defined in `specs/Words.antt`, what a run of `init` does in `specs/InitRun.antt`, what one of
-/// `check` does in `specs/CheckRun.antt`, and what one of `day` does in `specs/DayOver.antt`, over its journal. With words
+/// `check` does in `specs/CheckRun.antt`, and what one of `day` does in `specs/DayOver.antt`, over its journal, and what `export`, `raise` and `gen` do in
+/// `specs/Upkeep.antt`. With words
 /// that are none of the table nothing is read, written or printed. Where the words are `init JOURNAL SIZE`, the site's
 /// size is SIZE.
 pub fn run<S: Source, T: Site>(alloc: Global, words: &Words, day: &mut S, site: &mut T) -> Status
@@ -26,11 +29,17 @@ pub fn run<S: Source, T: Site>(alloc: Global, words: &Words, day: &mut S, site: 
     ensures init { (size : ℕ) → IsJob words.now (Job.Init size) → (S.feed day.new ≡ S.feed day.old) × InitRun T.tells (T.sight site.old) (T.sight site.new) result }
     ensures check { IsJob words.now Job.Check → CheckRun S.tells T.tells (S.feed day.old) (S.feed day.new) (T.sight site.old) (T.sight site.new) result }
     ensures day { IsJob words.now Job.Day → DayOver S.tells T.tells (S.feed day.old) (S.feed day.new) (T.sight site.old) (T.sight site.new) result }
+    ensures exports { IsJob words.now Job.Export → (S.feed day.new ≡ S.feed day.old) × ExportOver T.tells (T.sight site.old) (T.sight site.new) result }
+    ensures generates { (n : ℕ) → IsJob words.now (Job.Gen n) → (S.feed day.new ≡ S.feed day.old) × GenOver n T.tells (T.sight site.old) (T.sight site.new) result }
+    ensures raises { IsJob words.now Job.Raise → (S.feed day.new ≡ S.feed day.old) × RaiseOver T.tells (T.sight site.old) (T.sight site.new) result }
 {
     match plan(words) {
         Ok(Job::Init { .. }) => make_journal(site),
         Ok(Job::Day) => run_day(alloc, day, site),
         Ok(Job::Check) => check_input(alloc, day, site),
+        Ok(Job::Export) => run_export(alloc, site),
+        Ok(Job::Gen { n }) => run_gen(alloc, n, site),
+        Ok(Job::Raise) => run_raise(alloc, site),
         Err(_) => Status::Usage,
     }
 }

@@ -2,10 +2,12 @@ ghost use Rattle.std.specs.Prelude.{◌≡◌, ◌≢◌, ◌↔◌, ◌≤◌, 
 ghost use Rattle.std.specs.Str.{IsUtf8};
 ghost use Rattle.dali_journal.specs.Limits.{least_size};
 ghost use Rattle.dali_desk.specs.Limits.{most_size};
-ghost use Rattle.dali_desk.specs.Words.{IsJob};
+ghost use Rattle.dali_gen.specs.Limits.{most_number};
+ghost use Rattle.dali_desk.specs.Words.{IsJob, IsJournalWord};
 
 use crate::limits::MOST_SIZE;
 use dali_base::{Text, Words, read_number};
+use dali_gen::limits::MOST_NUMBER;
 use dali_journal::limits::LEAST_SIZE;
 
 /// What the words of the command line ask for.
@@ -17,6 +19,12 @@ pub enum Job {
     Day,
     /// `check`: judges a certificate block.
     Check,
+    /// `export JOURNAL`: prints the table of all postings.
+    Export,
+    /// `gen N`: prints the generated day file of N, 1 to 64.
+    Gen { n: u32 },
+    /// `raise JOURNAL`: raises the journal by one edition.
+    Raise,
 }
 
 /// The words are none of the table.
@@ -31,10 +39,42 @@ pub fn plan(words: &Words) -> Result<Job, Usage>
 {
     match words.as_slice() {
         [word] if is_word(word, b"check") => Ok(Job::Check),
-        [word, path] if is_word(word, b"day") && is_path(path) => Ok(Job::Day),
+        [word, n] if is_word(word, b"gen") => generated(n),
+        [word, path] if is_path(path) => over_journal(word),
         [word, path, size] if is_word(word, b"init") && is_path(path) => init(size),
         _ => Err(Usage),
     }
+}
+
+/// The job of a word that is followed by a journal alone.
+fn over_journal(word: &Text) -> Result<Job, Usage>
+    ensures ok { IfOk result (λ job. IsJournalWord word.now job) }
+    ensures usage { OnErr result ((job : _) → IsJournalWord word.now job → ⊥) }
+{
+    if is_word(word, b"day") {
+        return Ok(Job::Day);
+    }
+    if is_word(word, b"export") {
+        return Ok(Job::Export);
+    }
+    if is_word(word, b"raise") {
+        return Ok(Job::Raise);
+    }
+    Err(Usage)
+}
+
+/// The job of `gen` with this number.
+fn generated(n: &Text) -> Result<Job, Usage>
+    ensures ok { IfOk result (λ job. (k : ℕ) × (job ≡ Job.Gen k) × (1 ≤ k) × (k ≤ most_number) × (n.now ≡ decimal k)) }
+    ensures usage { OnErr result ((k : ℕ) → 1 ≤ k → k ≤ most_number → n.now ≡ decimal k → ⊥) }
+{
+    let Some(n) = read_number(n.bytes(), MOST_NUMBER as u64) else {
+        return Err(Usage);
+    };
+    if n == 0 {
+        return Err(Usage);
+    }
+    Ok(Job::Gen { n: n as u32 })
 }
 
 /// The job of `init` with this size.

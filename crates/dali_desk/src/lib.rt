@@ -17,6 +17,7 @@ mod rerun;
 mod status;
 #[cfg(test)]
 mod tests;
+mod upkeep;
 
 pub use dali_journal::Damage;
 pub use dali_verdict::Why;

@@ -1,6 +1,8 @@
-use Rattle.std.proofs.Common.{◌≤◌, sym, subst}
-use Rattle.dali_desk.specs.declared.job.Job.TheVariants.{Init, Day, Check}
+use Rattle.std.proofs.Common.{◌≤◌, refl, sym, subst}
+use Rattle.dali_desk.specs.declared.job.Job.TheVariants.{Init, Day, Check, Export, Gen, Raise}
+use Rattle.dali_desk.specs.Upkeep.{GenOver}
 use Rattle.dali_desk.specs.Words.{IsJob}
+use Rattle.dali_desk.proofs.Jobs.{one_number}
 use Rattle.dali_desk.proofs.desk.run.Goals as goal
 
 pub make_journal-requires : goal.make_journal-requires
@@ -16,3 +18,17 @@ returns-in-Err-clause-day g c is = absurd (c.in-Err.ensures.usage Day is)
 
 pub returns-in-Err-clause-check : goal.returns-in-Err-clause-check
 returns-in-Err-clause-check g c is = absurd (c.in-Err.ensures.usage Check is)
+
+pub returns-in-Err-clause-exports : goal.returns-in-Err-clause-exports
+returns-in-Err-clause-exports g c is = absurd (c.in-Err.ensures.usage Export is)
+
+pub returns-in-Err-clause-generates : goal.returns-in-Err-clause-generates
+returns-in-Err-clause-generates g c n is = absurd (c.in-Err.ensures.usage (Gen n) is)
+
+pub returns-in-Err-clause-raises : goal.returns-in-Err-clause-raises
+returns-in-Err-clause-raises g c is = absurd (c.in-Err.ensures.usage Raise is)
+
+pub returns-in-Ok-Gen-clause-generates : goal.returns-in-Ok-Gen-clause-generates
+returns-in-Ok-Gen-clause-generates g c n job =
+    let own : IsJob c.args.words.now (Gen c.in-Ok-Gen.n) = subst (IsJob c.args.words.now) c.in-Ok-Gen.field-0-is c.in-Ok-Gen.ensures.ok in
+    (refl, subst (λ k. GenOver k g.T.Site.tells (g.T.Site.sight c.args.site.now) (g.T.Site.sight c.run_gen.new.site) c.run_gen.result) (one_number c.args.words.now c.in-Ok-Gen.n n own job) c.run_gen.ensures)
