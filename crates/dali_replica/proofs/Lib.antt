@@ -1,0 +1,4 @@
+pub mod Blocks
+pub mod Midways
+pub mod Fronts
+pub mod Framing

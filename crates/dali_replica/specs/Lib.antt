@@ -1,0 +1,9 @@
+pub mod Limits
+pub mod Frame
+pub mod Stream
+pub mod Reading
+pub mod Intake
+pub mod FramesLayout
+pub use Rattle.dali_line.specs.Lines
+pub use Rattle.dali_record.specs.IsRecord
+pub use Rattle.dali_record.specs.RecordText
