@@ -7,9 +7,9 @@ ghost use Rattle.dali_line.specs.Line.{is_line};
 ghost use Rattle.dali_line.specs.Scan.{Finds, Steps, NotAtEnd, IsEnded, EndsWith, CutsOff};
 
 use crate::block::Block;
+use crate::limits::{MOST_COMMAND, MOST_FILE};
 use crate::line::Line;
 use crate::line_end::LineEnd;
-use crate::limits::{MOST_COMMAND, MOST_FILE};
 use crate::open_line::{OpenLine, TooLong};
 use crate::split::find;
 use dali_base::OutOfMemory;
