@@ -7,10 +7,6 @@ mod days;
 #[cfg(test)]
 mod faults;
 #[cfg(test)]
-mod fused;
-#[cfg(test)]
-mod journal;
-#[cfg(test)]
 mod stage;
 #[cfg(test)]
 mod tables;
