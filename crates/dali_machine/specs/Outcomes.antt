@@ -1,7 +1,7 @@
 use Rattle.std.specs.List.{filter}
 use Rattle.dali_account.specs.Book.{same_name}
 use Rattle.dali_account.specs.Pairs.{pairs_of}
-use Rattle.dali_statement.specs.Rows.{waiting_rows, held_ids}
+use Rattle.dali_waiting.specs.Rows.{waiting_rows, held_ids}
 use Rattle.dali_line.specs.declared.command.Verb.{Verb}
 use Rattle.dali_line.specs.declared.command.Verb.TheVariants as verbs
 use Rattle.dali_machine.specs.Cycles.{IsTrueReport}

@@ -1,7 +1,7 @@
 use crate::report::CycleReport;
 use dali_account::Pairs;
 use dali_ledger::Postings;
-use dali_statement::{Ids, WaitRows};
+use dali_waiting::{Ids, WaitRows};
 
 /// Why a command was refused. `Form`, `Back` and `Closed`, and that they come before the others, are defined in
 /// `specs/Step.antt`; what each of the others says, and their order for each verb, in `specs/Refusals.antt`.

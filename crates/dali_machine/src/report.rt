@@ -1,6 +1,6 @@
 use dali_problem::Problem;
-use dali_statement::Ids;
 use dali_tree::Choice;
+use dali_waiting::Ids;
 
 /// How good the set of a cycle is known to be.
 #[derive(Clone, Copy, Debug, PartialEq, Eq)]

@@ -1,6 +1,6 @@
 ghost use Rattle.std.specs.Prelude.{◌≡◌, ◌+◌, ◌^◌, ◌<◌, ◌≤◌, ℕ, false, length, map, slice_index_or, IfOk};
 ghost use Rattle.std.specs.List.{All, Contains};
-ghost use Rattle.dali_base.specs.Limits.{most_items};
+ghost use Rattle.dali_base.specs.Limits.{most_budget, most_items};
 ghost use Rattle.dali_problem.specs.Feasible.{value_of};
 ghost use Rattle.dali_tree.specs.Fits.{Fits};
 ghost use Rattle.dali_tree.specs.Tree.{branch_count};
@@ -26,7 +26,7 @@ use std::alloc::Global;
 ///
 /// Where the budget is at least 2^m - 1, for m items, no set is worth more than the choice's.
 pub fn solve_parts(alloc: Global, problem: &Problem, budget: u64) -> Result<Choice, OutOfMemory>
-    requires { budget ≤ 4096 }
+    requires { budget ≤ most_budget }
     ensures fits { IfOk result (λ choice. Fits (length problem.now.items) (length problem.now.lines) choice) }
     ensures allowed { IfOk result (λ choice. Allowed problem.now budget choice) }
     ensures finest { IfOk result (λ choice. AreFinest problem.now (map (λ (part : Part). part.members) choice.parts)) }
@@ -52,7 +52,7 @@ fn joined(
     lists: &[Places],
     chosen: &mut [bool],
 ) -> Result<Choice, OutOfMemory>
-    requires budget { budget ≤ 4096 }
+    requires budget { budget ≤ most_budget }
     requires finest { AreFinest problem.now lists.now }
     requires size { length chosen.old ≡ length problem.now.items }
     requires free { AreFree lists.now 0 chosen.old }
@@ -78,7 +78,7 @@ fn search_all(
     lists: &[Places],
     chosen: &mut [bool],
 ) -> Result<Vec<Part>, OutOfMemory>
-    requires budget { budget ≤ 4096 }
+    requires budget { budget ≤ most_budget }
     requires finest { AreFinest problem.now lists.now }
     requires size { length chosen.old ≡ length problem.now.items }
     requires free { AreFree lists.now 0 chosen.old }
@@ -104,7 +104,7 @@ fn search_one(
     members: &Places,
     chosen: &mut [bool],
 ) -> Result<Part, OutOfMemory>
-    requires budget { budget ≤ 4096 }
+    requires budget { budget ≤ most_budget }
     requires members { IsClass problem.now members.now }
     requires size { length chosen.old ≡ length problem.now.items }
     requires free { (j : ℕ) → Contains members.now j → slice_index_or chosen.old j false ≡ false }

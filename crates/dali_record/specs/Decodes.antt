@@ -1,4 +1,5 @@
 use Rattle.std.specs.Prelude.{◌≡◌, ℕ, ◌≤◌, List, [], Result, Ok, Err, IfSome}
+use Rattle.dali_base.specs.Limits.{newest_edition, most_items, most_lines}
 use Rattle.dali_tree.specs.Fits.{Fits}
 use Rattle.dali_entry.specs.EntryRecord.{EntryRecord}
 use Rattle.dali_record.specs.declared.refusal.RecordNo.{RecordNo}
@@ -15,5 +16,5 @@ Decodes bytes (Err errors.OutOfMemory) = Unit {0}
 pub record IsWhole (e : EntryRecord) (rest : List ℕ) : Type 0 where
   pub ended : rest ≡ []
   pub first : 1 ≤ e.edition
-  pub newest : e.edition ≤ 4
-  pub fits : IfSome e.choice (Fits 1024 4096)
+  pub newest : e.edition ≤ newest_edition
+  pub fits : IfSome e.choice (Fits most_items most_lines)

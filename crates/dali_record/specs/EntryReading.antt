@@ -1,5 +1,6 @@
 use Rattle.std.specs.Prelude.{ℕ, zero, suc, ◌==◌, nat_lt, List, [], ◌∷◌, length, take, drop, Option, Some, None, if◌then◌else◌}
 use Rattle.std.specs.Int.{w16, w64}
+use Rattle.dali_base.specs.Limits.{most_budget, most_depth}
 use Rattle.dali_line.specs.Line.{is_line}
 use Rattle.dali_tree.specs.declared.choice.Part.{Part}
 use Rattle.dali_tree.specs.declared.choice.Choice.{Choice}
@@ -12,7 +13,7 @@ unfoldable pub part_at : ℕ → List ℕ → Option (Part × ℕ × List ℕ)
 part_at left bytes = do
   members ← list_at place_at bytes
   bound ← number_at w64 members.1
-  tree ← tree_at 1024 left all_zero bound.1
+  tree ← tree_at most_depth left all_zero bound.1
   Some (record { members = members.0; bound = bound.0; tree = tree.0 }, tree.1, tree.2)
 
 -- so many parts
@@ -27,7 +28,7 @@ unfoldable pub choice_at : List ℕ → Option (Choice × List ℕ)
 choice_at bytes = do
   places ← list_at place_at bytes
   n ← number_at w16 places.1
-  parts ← parts_at n.0 4096 n.1
+  parts ← parts_at n.0 most_budget n.1
   Some (record { places = places.0; parts = parts.0 }, parts.2)
 
 unfoldable pub option_at : List ℕ → Option (Option Choice × List ℕ)

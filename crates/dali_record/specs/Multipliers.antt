@@ -1,4 +1,5 @@
 use Rattle.std.specs.Prelude.{ℕ, zero, suc, ◌<◌, ◌≤◌, ◌==◌, List, [], ◌∷◌, ◌++◌, Option, Some, None, unwrap_or, if◌then◌else◌}
+use Rattle.dali_base.specs.Limits.{most_lines}
 
 -- lines rise from one on, below an end
 abbrev pub Rises : ℕ → ℕ → List (ℕ × ℕ) → Type 0
@@ -34,7 +35,7 @@ changes_from above own line (suc count) = change above own line ++ changes_from 
 -- how a node's own multipliers differ from those of the branch above it: each line that has another multiplier there,
 -- with its own, in order of lines
 abbrev pub changes : (ℕ → ℕ) → (ℕ → ℕ) → List (ℕ × ℕ)
-changes above own = changes_from above own 0 4096
+changes above own = changes_from above own 0 most_lines
 
 -- the list of the multipliers that aren't 0
 abbrev pub list_of : (ℕ → ℕ) → List (ℕ × ℕ)

@@ -1,6 +1,7 @@
 use Rattle.std.specs.Prelude.{◌≡◌, ℕ, zero, suc, ◌^◌, Bool, true, not, nat_le, nat_lt, ◌==◌, ◌&&◌, List, [], ◌∷◌, length, take, drop, Option, Some, None, Result, Ok, Err, if◌then◌else◌}
 use Rattle.std.specs.List.{list_all}
 use Rattle.std.specs.Int.{Width, w16, w64, byte_len, from_be_bytes}
+use Rattle.dali_base.specs.Limits.{most_lines, most_multiplier}
 use Rattle.dali_tree.specs.declared.fix.Fix.{Fix}
 use Rattle.dali_tree.specs.declared.fix.Fix.TheVariants.{Barred, Needed, Safe}
 use Rattle.dali_tree.specs.declared.tree.Tree.{Tree}
@@ -67,10 +68,10 @@ multiplier_at bytes = do
   m ← number_at w64 line.1
   Some ((line.0, m.0), m.1)
 
--- changes on rising lines from one on, each to at most 2^44
+-- changes on rising lines from one on, each to at most the greatest multiplier
 abbrev pub rises_from : ℕ → List (ℕ × ℕ) → Bool
 rises_from line [] = true
-rises_from line (m ∷ changes) = nat_le line m.0 && nat_lt m.0 4096 && nat_le m.1 (2 ^ 44) && rises_from (suc m.0) changes
+rises_from line (m ∷ changes) = nat_le line m.0 && nat_lt m.0 most_lines && nat_le m.1 most_multiplier && rises_from (suc m.0) changes
 
 abbrev pub differs : (ℕ → ℕ) → ℕ × ℕ → Bool
 differs above m = not (m.1 == above m.0)

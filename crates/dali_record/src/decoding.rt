@@ -1,5 +1,6 @@
 ghost use Rattle.std.specs.Prelude.{◌≡◌, ◌==◌, not, ◌↔◌, IsTrue, IfOk, IfSome, IsErrOf, MatchResult};
 ghost use Rattle.std.specs.List.{list_all};
+ghost use Rattle.dali_base.specs.Limits.{most_items, most_lines};
 ghost use Rattle.dali_line.specs.Commands.{is_command as is_command_text};
 ghost use Rattle.dali_line.specs.Line.{is_line as is_line_text};
 ghost use Rattle.dali_tree.specs.Fits.{Fits};
@@ -14,27 +15,14 @@ use crate::numbers::{eight_of, two_of};
 use crate::reading::places_of;
 use crate::refusal::RecordNo;
 use crate::trees::tree_of;
+use dali_base::limits::{MOST_BUDGET, MOST_DEPTH, MOST_ITEMS, MOST_LINES};
 use dali_base::{NEWEST, Seq};
 use dali_entry::Entry;
 use dali_fits::choice_fits;
 use dali_line::Line;
+use dali_line::limits::MOST_COMMAND;
 use dali_tree::{Choice, Part, Parts};
 use std::alloc::Global;
-
-/// The most bytes of a line.
-const MOST_OF_LINE: usize = 200;
-
-/// Places are below this number in every record.
-const PLACES: u32 = 1024;
-
-/// Lines are below this number in every record.
-const LINES: u32 = 4096;
-
-/// The most branches on a path of a tree.
-const MOST_DEPTH: u32 = 1024;
-
-/// The most branches of a record.
-const MOST_BRANCHES: u32 = 4096;
 
 /// The entry whose record these bytes are. `Form` exactly where they are the record of none. No memory is taken for more
 /// than what was read.
@@ -64,11 +52,11 @@ fn is_whole(entry: &Entry, rest: &[u8]) -> bool
 }
 
 fn option_fits(choice: &Option<Choice>) -> bool
-    ensures { IsTrue result ↔ IfSome choice.now (Fits 1024 4096) }
+    ensures { IsTrue result ↔ IfSome choice.now (Fits most_items most_lines) }
 {
     match choice {
         None => true,
-        Some(choice) => choice_fits(choice, PLACES, LINES),
+        Some(choice) => choice_fits(choice, MOST_ITEMS, MOST_LINES),
     }
 }
 
@@ -111,7 +99,7 @@ fn line_of(alloc: Global, bytes: &[u8]) -> Result<(Line, &[u8]), RecordNo>
 fn is_line(bytes: &[u8]) -> bool
     ensures { result ≡ is_line_text bytes.now }
 {
-    is_command(bytes) && bytes.len() <= MOST_OF_LINE && has_no_end(bytes)
+    is_command(bytes) && bytes.len() <= MOST_COMMAND && has_no_end(bytes)
 }
 
 /// Whether no byte ends a line.
@@ -150,7 +138,7 @@ fn choice_of(alloc: Global, bytes: &[u8]) -> Result<(Choice, &[u8]), RecordNo>
 {
     let (places, rest) = places_of(alloc, bytes)?;
     let (count, rest) = two_of(rest)?;
-    let (parts, _, rest) = parts_of(alloc, count, MOST_BRANCHES, rest)?;
+    let (parts, _, rest) = parts_of(alloc, count, MOST_BUDGET as u32, rest)?;
     Ok((Choice { places, parts }, rest))
 }
 

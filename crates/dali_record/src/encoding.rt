@@ -1,5 +1,6 @@
 ghost use Rattle.std.specs.Prelude.{◌≡◌, ℕ, ◌+◌, ◌≤◌, ◌++◌, None, length, OnOk, IfOk, IfSome};
 ghost use Rattle.std.specs.List.{All};
+ghost use Rattle.dali_base.specs.Limits.{most_items, most_lines};
 ghost use Rattle.dali_tree.specs.Fits.{PartFits};
 ghost use Rattle.dali_entry.specs.EntryRecord.{EntryRecord};
 ghost use Rattle.dali_record.specs.TreeText.{list_text};
@@ -63,7 +64,7 @@ fn put_choice(alloc: Global, out: &mut Text, choice: &Choice) -> Result<(), OutO
 }
 
 fn put_parts(alloc: Global, out: &mut Text, parts: &[Part]) -> Result<(), OutOfMemory>
-    requires { All (PartFits 1024 4096) parts.now }
+    requires { All (PartFits most_items most_lines) parts.now }
     ensures { OnOk result (out.new ≡ out.old ++ list_text part_text parts.now) }
 {
     put_count(out, parts.len())?;
@@ -74,7 +75,7 @@ fn put_parts(alloc: Global, out: &mut Text, parts: &[Part]) -> Result<(), OutOfM
 }
 
 fn put_part(alloc: Global, out: &mut Text, part: &Part) -> Result<(), OutOfMemory>
-    requires { PartFits 1024 4096 part.now }
+    requires { PartFits most_items most_lines part.now }
     ensures { OnOk result (out.new ≡ out.old ++ part_text part.now) }
 {
     put_places(out, part.members.as_slice())?;

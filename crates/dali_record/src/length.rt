@@ -1,4 +1,5 @@
 ghost use Rattle.std.specs.Prelude.{◌≡◌, ◌≤◌};
+ghost use Rattle.dali_base.specs.Limits.{most_budget};
 ghost use Rattle.dali_record.specs.Longest.{longest};
 
 /// The greatest length of the record of an accepted cycle, in bytes: of a line of so many bytes, a problem of so many
@@ -6,7 +7,7 @@ ghost use Rattle.dali_record.specs.Longest.{longest};
 pub fn greatest_length(line: u32, items: u64, lines: u64, budget: u64) -> u64
     requires items { items ≤ 4096 }
     requires lines { lines ≤ 16384 }
-    requires budget { budget ≤ 4096 }
+    requires budget { budget ≤ most_budget }
     ensures { result ≡ longest line items lines budget }
 {
     let node = 7 + 5 * items + 10 * lines;

@@ -1,19 +1,15 @@
 ghost use Rattle.std.specs.Prelude.{◌≡◌, ◌==◌, ◌++◌, [], ◌∷◌, IfOk, OnOk, Some, None, if◌then◌else◌};
 ghost use Rattle.std.specs.List.{list_all};
+ghost use Rattle.dali_base.specs.Limits.{most_lines};
 ghost use Rattle.dali_record.specs.Multipliers.{Rises, behind, multiplier, changes, list_of};
 ghost use Rattle.dali_record.specs.Reading.{Gives, rises_from, differs, made_of as made};
 ghost use Rattle.dali_record.specs.Merging.{least, taken_value, taken_rest, own_of};
 
 use crate::refusal::RecordNo;
+use dali_base::limits::{MOST_LINES, MOST_MULTIPLIER};
 use dali_base::{OutOfMemory, Seq};
 use dali_tree::Lam;
 use std::alloc::Global;
-
-/// The greatest multiplier.
-const MOST_MULTIPLIER: u64 = 1 << 44;
-
-/// The number of lines that multipliers may name.
-const LINES: u32 = 4096;
 
 /// The least of the first lines of two lists, where there is one.
 fn least_line(first: &[(u32, u64)], second: &[(u32, u64)]) -> Option<u32>
@@ -44,7 +40,7 @@ pub(crate) fn changes_between(
     above: &[(u32, u64)],
     own: &[(u32, u64)],
 ) -> Result<Lam, OutOfMemory>
-    ensures { IfOk result (λ found. Rises 0 4096 above.now → Rises 0 4096 own.now → found ≡ changes (multiplier above.now) (multiplier own.now)) }
+    ensures { IfOk result (λ found. Rises 0 most_lines above.now → Rises 0 most_lines own.now → found ≡ changes (multiplier above.now) (multiplier own.now)) }
 {
     let mut found = Seq::new(alloc);
     let mut above_left = above;
@@ -80,13 +76,13 @@ fn own_multiplier(before: u64, change: Option<u64>) -> Option<u64>
     }
 }
 
-/// Whether changes are those of rising lines below 4,096, each to at most 2^44.
+/// Whether changes are those of rising lines of the greatest problem, each to at most the greatest multiplier.
 fn rise(changes: &[(u32, u64)]) -> bool
     ensures { result ≡ rises_from 0 changes.now }
 {
     let mut from = 0;
     for change in changes {
-        if change.0 < from || change.0 >= LINES || change.1 > MOST_MULTIPLIER {
+        if change.0 < from || change.0 >= MOST_LINES || change.1 > MOST_MULTIPLIER {
             return false;
         }
         from = change.0 + 1;
@@ -100,9 +96,9 @@ pub(crate) fn made_of(
     above: &[(u32, u64)],
     changes: &[(u32, u64)],
 ) -> Result<Lam, RecordNo>
-    requires { Rises 0 4096 above.now }
+    requires { Rises 0 most_lines above.now }
     ensures made { Gives (λ lam. lam) result (made (multiplier above.now) changes.now) }
-    ensures rises { IfOk result (λ lam. Rises 0 4096 lam) }
+    ensures rises { IfOk result (λ lam. Rises 0 most_lines lam) }
 {
     if !rise(changes) {
         return Err(RecordNo::Form);
@@ -112,8 +108,8 @@ pub(crate) fn made_of(
 
 /// The same of changes on rising lines.
 fn merged(alloc: Global, above: &[(u32, u64)], changes: &[(u32, u64)]) -> Result<Lam, RecordNo>
-    requires above { Rises 0 4096 above.now }
-    requires changes { Rises 0 4096 changes.now }
+    requires above { Rises 0 most_lines above.now }
+    requires changes { Rises 0 most_lines changes.now }
     ensures { Gives (λ lam. lam) result
         (if list_all (differs (multiplier above.now)) changes.now then Some (list_of (behind (multiplier above.now) changes.now)) else None) }
 {

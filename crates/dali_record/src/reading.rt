@@ -1,5 +1,6 @@
 ghost use Rattle.std.specs.Prelude.{◌≡◌, IfOk};
 ghost use Rattle.std.specs.Int.{w16};
+ghost use Rattle.dali_base.specs.Limits.{most_lines};
 ghost use Rattle.dali_record.specs.Multipliers.{Rises, multiplier};
 ghost use Rattle.dali_record.specs.Reading.{Gives, items_at, list_at, place_at, fix_at, multiplier_at, lam_at};
 
@@ -91,9 +92,9 @@ pub(crate) fn lam_of<'a>(
     above: &[(u32, u64)],
     bytes: &'a [u8],
 ) -> Result<(Lam, &'a [u8]), RecordNo>
-    requires { Rises 0 4096 above.now }
+    requires { Rises 0 most_lines above.now }
     ensures lam { Gives (λ x. (x.0, x.1.now)) result (lam_at (multiplier above.now) bytes.now) }
-    ensures rises { IfOk result (λ x. Rises 0 4096 x.0) }
+    ensures rises { IfOk result (λ x. Rises 0 most_lines x.0) }
 {
     let (changes, rest) = changes_of(alloc, bytes)?;
     let lam = made_of(alloc, above, changes.as_slice())?;

@@ -1,4 +1,5 @@
 ghost use Rattle.std.specs.Prelude.{suc};
+ghost use Rattle.dali_base.specs.Limits.{most_lines};
 ghost use Rattle.dali_record.specs.Multipliers.{Rises, multiplier};
 ghost use Rattle.dali_record.specs.Reading.{Gives, branch_at, any_end_at, no_branch_at, end_at, tree_at};
 
@@ -22,7 +23,7 @@ pub(crate) fn tree_of<'a>(
     above: &[(u32, u64)],
     bytes: &'a [u8],
 ) -> Result<Left<'a, Tree>, RecordNo>
-    requires { Rises 0 4096 above.now }
+    requires { Rises 0 most_lines above.now }
     ensures { Gives (λ x. (x.0, x.1, x.2.now)) result (tree_at depth left (multiplier above.now) bytes.now) }
 {
     let (fixes, rest) = fixes_of(alloc, bytes)?;
@@ -39,7 +40,7 @@ fn end_of<'a>(
     above: &[(u32, u64)],
     bytes: &'a [u8],
 ) -> Result<Left<'a, End>, RecordNo>
-    requires { Rises 0 4096 above.now }
+    requires { Rises 0 most_lines above.now }
     ensures { Gives (λ x. (x.0, x.1, x.2.now)) result (end_at depth left (multiplier above.now) bytes.now) }
 {
     if depth == 0 {
@@ -56,7 +57,7 @@ fn flat_end_of<'a>(
     above: &[(u32, u64)],
     bytes: &'a [u8],
 ) -> Result<Left<'a, End>, RecordNo>
-    requires { Rises 0 4096 above.now }
+    requires { Rises 0 most_lines above.now }
     ensures { Gives (λ x. (x.0, x.1, x.2.now)) result (any_end_at no_branch_at left (multiplier above.now) bytes.now) }
 {
     match bytes {
@@ -84,7 +85,7 @@ fn deep_end_of<'a>(
     above: &[(u32, u64)],
     bytes: &'a [u8],
 ) -> Result<Left<'a, End>, RecordNo>
-    requires { Rises 0 4096 above.now }
+    requires { Rises 0 most_lines above.now }
     ensures { Gives (λ x. (x.0, x.1, x.2.now)) result (any_end_at (branch_at (tree_at depth)) left (multiplier above.now) bytes.now) }
 {
     match bytes {
@@ -110,7 +111,7 @@ fn any_branch_of<'a>(
     above: &[(u32, u64)],
     bytes: &'a [u8],
 ) -> Result<Left<'a, End>, RecordNo>
-    requires { Rises 0 4096 above.now }
+    requires { Rises 0 most_lines above.now }
     ensures { Gives (λ x. (x.0, x.1, x.2.now)) result (branch_at (tree_at depth) left (multiplier above.now) bytes.now) }
 {
     if left == 0 {
@@ -129,7 +130,7 @@ fn branch_of<'a>(
     above: &[(u32, u64)],
     bytes: &'a [u8],
 ) -> Result<Left<'a, End>, RecordNo>
-    requires { Rises 0 4096 above.now }
+    requires { Rises 0 most_lines above.now }
     ensures { Gives (λ x. (x.0, x.1, x.2.now)) result (branch_at (tree_at depth) (suc left) (multiplier above.now) bytes.now) }
 {
     let (place, rest) = two_of(bytes)?;

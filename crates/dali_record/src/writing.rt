@@ -1,4 +1,5 @@
 ghost use Rattle.std.specs.Prelude.{◌≡◌, ◌++◌, OnOk, IsTrue};
+ghost use Rattle.dali_base.specs.Limits.{most_items, most_lines};
 ghost use Rattle.dali_tree.specs.Fits.{tree_fits};
 ghost use Rattle.dali_tree.specs.Ends.{ends_fit};
 ghost use Rattle.dali_record.specs.Multipliers.{Rises, all_zero, multiplier};
@@ -59,7 +60,7 @@ fn put_lam(
     above: &[(u32, u64)],
     lam: &[(u32, u64)],
 ) -> Result<(), OutOfMemory>
-    ensures { OnOk result (Rises 0 4096 above.now → Rises 0 4096 lam.now → out.new ≡ out.old ++ lam_text (multiplier above.now) lam.now) }
+    ensures { OnOk result (Rises 0 most_lines above.now → Rises 0 most_lines lam.now → out.new ≡ out.old ++ lam_text (multiplier above.now) lam.now) }
 {
     let changes = changes_between(alloc, above, lam)?;
     put_multipliers(out, changes.as_slice())
@@ -84,7 +85,7 @@ fn put_multiplier(out: &mut Text, multiplier: &(u32, u64)) -> Result<(), OutOfMe
 
 /// Adds a part's tree.
 pub(crate) fn put_root(alloc: Global, out: &mut Text, tree: &Tree) -> Result<(), OutOfMemory>
-    requires { IsTrue (tree_fits 1024 4096 tree.now) }
+    requires { IsTrue (tree_fits most_items most_lines tree.now) }
     ensures { OnOk result (out.new ≡ out.old ++ tree_text tree.now all_zero) }
 {
     put_tree(alloc, out, &[], tree)
@@ -98,7 +99,7 @@ fn put_tree(
     above: &[(u32, u64)],
     tree: &Tree,
 ) -> Result<(), OutOfMemory>
-    ensures { OnOk result (Rises 0 4096 above.now → IsTrue (tree_fits 1024 4096 tree.now) →
+    ensures { OnOk result (Rises 0 most_lines above.now → IsTrue (tree_fits most_items most_lines tree.now) →
         out.new ≡ out.old ++ tree_text tree.now (multiplier above.now)) }
 {
     put_fixes(out, tree.fixes.as_slice())?;
@@ -113,7 +114,7 @@ fn put_end(
     above: &[(u32, u64)],
     end: &End,
 ) -> Result<(), OutOfMemory>
-    ensures { OnOk result (Rises 0 4096 above.now → IsTrue (ends_fit 1024 4096 end.now) →
+    ensures { OnOk result (Rises 0 most_lines above.now → IsTrue (ends_fit most_items most_lines end.now) →
         out.new ≡ out.old ++ ends_text end.now (multiplier above.now)) }
 {
     match end {

@@ -1,4 +1,5 @@
 ghost use Rattle.std.specs.Prelude.{◌≡◌, ◌+◌, ◌<◌, ◌≤◌, ◌^◌, ◌++◌, [], ℕ, List, OnOk, IfOk};
+ghost use Rattle.dali_base.specs.Limits.{most_budget};
 ghost use Rattle.dali_entry.specs.EntryRecord.{EntryRecord};
 ghost use Rattle.dali_journal.specs.Frames.{frame_of, payload_of};
 ghost use Rattle.dali_machine.specs.Ready.{CanCommit};
@@ -31,7 +32,7 @@ impl Register {
     ) -> Result<(), RegisterNo>
         requires few { self.old.state.machine.commands < 2 ^ 63 }
         requires at_site { IsAtSite self.old (T.sight site.old) }
-        requires budget { budget ≤ 4096 }
+        requires budget { budget ≤ most_budget }
         requires cycle { AsksFor problem.now budget self.old.state.machine (judged self.old.journal.edition self.old.state.machine line) }
         ensures took { (before : Sight) (found added held : List EntryRecord) → SoFar T.tells before found added held self.old (T.sight site.old) →
             Took T.tells before found (added ++ held) line self.new (T.sight site.old) (T.sight site.new) result }
@@ -53,7 +54,7 @@ impl Register {
         budget: u64,
     ) -> Result<(Made, Sealed), OutOfMemory>
         requires few { self.old.state.machine.commands < 2 ^ 63 }
-        requires budget { budget ≤ 4096 }
+        requires budget { budget ≤ most_budget }
         requires cycle { AsksFor problem.now budget self.old.state.machine (judged self.old.journal.edition self.old.state.machine line) }
         ensures made { IfOk result (λ made. IsMadeOf self.old.journal.edition self.old.state.machine line made.0) }
         ensures frame { IfOk result (λ made. made.1 ≡ frame_of made.0.record) }

@@ -3,8 +3,8 @@ use Rattle.std.specs.Fmt.{signed_decimal}
 use Rattle.std.specs.List.{flat_map}
 use Rattle.dali_account.specs.declared.pairs.Pair.{Pair}
 use Rattle.dali_ledger.specs.declared.posting.Posting.{Posting}
-use Rattle.dali_statement.specs.declared.rows.WaitRow.{WaitRow}
-use Rattle.dali_statement.specs.Export.{row_text}
+use Rattle.dali_waiting.specs.declared.rows.WaitRow.{WaitRow}
+use Rattle.dali_waiting.specs.RowText.{row_text}
 use Rattle.dali_line.specs.Grammar.{kind_text}
 use Rattle.dali_machine.specs.declared.outcome.Code.{Code}
 use Rattle.dali_machine.specs.declared.outcome.Code.TheVariants.{Form, Back, Closed, There, Full, Name, Total, Short, Cash, SelfDeal, Late, Value, Gone, Linked}

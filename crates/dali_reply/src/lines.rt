@@ -8,7 +8,7 @@ use dali_base::{Name, OutOfMemory, Text};
 use dali_cert_print::{add_field, add_number, end};
 use dali_ledger::Posting;
 use dali_machine::{Code, CycleReport};
-use dali_statement::WaitRow;
+use dali_waiting::WaitRow;
 
 /// The line of an accepted command that prints no rows.
 pub(crate) fn add_ok(text: &mut Text, number: u64) -> Result<(), OutOfMemory>

@@ -13,7 +13,7 @@ use dali_base::{Name, OutOfMemory, Text};
 use dali_cert_print::print_block;
 use dali_ledger::Posting;
 use dali_machine::{CycleReport, Outcome};
-use dali_statement::WaitRow;
+use dali_waiting::WaitRow;
 use std::alloc::Global;
 
 /// The room of a reply at its start, in bytes: enough for one line of a number, two words and no names.

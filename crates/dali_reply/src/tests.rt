@@ -3,7 +3,7 @@ use dali_account::{Pair, Pairs};
 use dali_base::{Kind, Name, read_name};
 use dali_ledger::{Posting, Postings};
 use dali_machine::{Code, Outcome};
-use dali_statement::{Ids, WaitRow, WaitRows};
+use dali_waiting::{Ids, WaitRow, WaitRows};
 use std::test::Fail;
 
 fn name(bytes: &[u8]) -> Result<Name, Fail> {

@@ -4,6 +4,7 @@ use Rattle.dali_problem.specs.Clearing.{Clearing}
 use Rattle.dali_problem.specs.Feasible.{value_of}
 use Rattle.dali_problem.specs.Rules.{is_short}
 use Rattle.dali_lagrange.specs.Bound.{sum_of}
+use Rattle.dali_lagrange.specs.Limits.{scale}
 use Rattle.dali_greedy.specs.Grown.{IsGrown}
 use Rattle.dali_check.specs.Lean.{is_open}
 use Rattle.dali_search.specs.declared.best.Best.{Best}
@@ -16,4 +17,4 @@ pub record IsBest (p : Clearing) (best : Best) : Type 0 where
 
 -- where a partial choice decides all and leaves no line short, what is chosen is worth at most v
 pub record IsOffered (p : Clearing) (f : List Mark) (v : ℕ) : Type 0 where
-  pub offered : is_open p f ≡ false → ((l : ℕ) → l < length p.lines → is_short p f l ≡ false) → sum_of p f (λ _. 0) ≤ℤ pos (4096 * v)
+  pub offered : is_open p f ≡ false → ((l : ℕ) → l < length p.lines → is_short p f l ≡ false) → sum_of p f (λ _. 0) ≤ℤ pos (scale * v)

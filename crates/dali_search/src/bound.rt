@@ -1,11 +1,14 @@
 ghost use Rattle.std.specs.Prelude.{◌≡◌, ℕ, ◌*◌, ◌+◌, ◌^◌, ◌<◌, ◌≤◌, ℤ, pos, ◌≤ℤ◌, ◌<ℤ◌, true, length, IfSome, IfNone, false, IsTrue};
+ghost use Rattle.dali_base.specs.Limits.{most_worths};
 ghost use Rattle.dali_problem.specs.Kept.{IsOf};
 ghost use Rattle.dali_problem.specs.Rules.{is_short};
 ghost use Rattle.dali_lagrange.specs.Bound.{sum_of};
+ghost use Rattle.dali_lagrange.specs.Limits.{scale};
 ghost use Rattle.dali_lagrange.specs.Multipliers.{AreMultipliers, multiplier};
 ghost use Rattle.dali_check.specs.Proves.{closes};
 ghost use Rattle.dali_check.specs.Lean.{reaches};
 
+use dali_lagrange::limits::SCALE;
 use dali_lagrange::{Point, sum};
 use dali_problem::{Partial, Problem};
 use dali_tree::Lam;
@@ -17,7 +20,7 @@ pub(crate) fn bound(problem: &Problem, partial: &Partial, lam: &Lam, point: &mut
     requires lam { AreMultipliers (length problem.now.lines) lam.now }
     requires under { sum_of problem.now partial.now.marks (multiplier lam.now) ≤ℤ sum_of problem.now partial.now.marks (λ _. 0) }
     ensures point { length point.new ≡ length point.old }
-    ensures small { result ≤ 16384 * 10 ^ 15 }
+    ensures small { result ≤ most_worths }
     ensures above { closes problem.now result lam.now partial.now.marks ≡ true }
     ensures least { 0 < result → reaches problem.now result lam.now partial.now.marks ≡ true }
 {
@@ -66,15 +69,15 @@ fn is_least(sum: &i128, other: &i128) -> bool
 
 /// How many whole centavos a Sum has.
 fn floor(sum: &i128) -> u64
-    requires { sum.now ≤ℤ pos (4096 * (16384 * 10 ^ 15)) }
-    ensures small { result ≤ 16384 * 10 ^ 15 }
-    ensures above { sum.now <ℤ pos (4096 * (result + 1)) }
-    ensures least { 0 < result → pos (4096 * result) ≤ℤ sum.now }
+    requires { sum.now ≤ℤ pos (scale * most_worths) }
+    ensures small { result ≤ most_worths }
+    ensures above { sum.now <ℤ pos (scale * (result + 1)) }
+    ensures least { 0 < result → pos (scale * result) ≤ℤ sum.now }
 {
     if *sum < 0 {
         return 0;
     }
-    (*sum as u128 / 4096) as u64
+    (*sum as u128 / SCALE as u128) as u64
 }
 
 /// The first line that is short.

@@ -4,7 +4,7 @@ use Rattle.std.specs.List.{AllByRecursion}
 use Rattle.std.proofs.lemmas.List.{append-nil}
 use Rattle.csv.specs.Writing as csv
 use Rattle.csv.specs.Writing.{default_writer, needs_quotes, field_text, fields_text, quoted, is_blank}
-use Rattle.dali_statement.specs.Export.{row_text}
+use Rattle.dali_waiting.specs.RowText.{row_text}
 
 abbrev pub IsPlain : List ℕ → Type 0
 IsPlain field = needs_quotes default_writer field ≡ false

@@ -2,12 +2,7 @@ use Rattle.std.specs.Prelude.{ℕ, List, [], ◌∷◌, ◌++◌, codes, decimal
 use Rattle.std.specs.Fmt.{signed_decimal}
 use Rattle.std.specs.List.{flat_map}
 use Rattle.dali_ledger.specs.declared.posting.Posting.{Posting}
-
--- a row of text: fields joined by commas, ended by LF
-abbrev pub row_text : List (List ℕ) → List ℕ
-row_text [] = 10 ∷ []
-row_text (field ∷ []) = field ++ 10 ∷ []
-row_text (field ∷ next ∷ fields) = field ++ 44 ∷ row_text (next ∷ fields)
+use Rattle.dali_waiting.specs.RowText.{row_text}
 
 abbrev pub header : List (List ℕ)
 header = codes "number" ∷ codes "command" ∷ codes "account" ∷ codes "asset" ∷ codes "delta" ∷ codes "after" ∷ []

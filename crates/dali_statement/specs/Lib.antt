@@ -1,3 +1,4 @@
-pub mod Rows
 pub mod Export
 pub mod Ready
+pub use Rattle.dali_waiting.specs.Rows
+pub use Rattle.dali_waiting.specs.RowText

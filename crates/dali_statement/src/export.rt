@@ -3,7 +3,8 @@ ghost use Rattle.std.specs.Fmt.{signed_decimal};
 ghost use Rattle.std.specs.List.{All};
 ghost use Rattle.std.specs.Io.KnownBytes.{Appends};
 ghost use Rattle.csv.specs.Writing.{default_writer, needs_quotes, text_written};
-ghost use Rattle.dali_statement.specs.Export.{row_text, header, fields_of, table};
+ghost use Rattle.dali_statement.specs.Export.{header, fields_of, table};
+ghost use Rattle.dali_waiting.specs.RowText.{row_text};
 ghost use Rattle.dali_statement.specs.Ready.{IsReady};
 
 use csv::Writer;

@@ -1,5 +1,5 @@
 use Rattle.std.specs.Prelude.{ℕ, List, [], ◌∷◌, ◌++◌, codes, decimal}
-use Rattle.dali_statement.specs.Export.{row_text}
+use Rattle.dali_waiting.specs.RowText.{row_text}
 use Rattle.dali_reply.specs.Reply.{mark_text}
 use Rattle.dali_summary.specs.declared.figures.CycleFigures.{CycleFigures}
 

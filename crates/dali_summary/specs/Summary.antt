@@ -1,6 +1,6 @@
 use Rattle.std.specs.Prelude.{ℕ, List, [], ◌∷◌, ◌++◌, codes, decimal, length}
 use Rattle.std.specs.List.{count_by, flat_map}
-use Rattle.dali_statement.specs.Export.{row_text}
+use Rattle.dali_waiting.specs.RowText.{row_text}
 use Rattle.dali_reply.specs.Reply.{mark_text}
 use Rattle.dali_machine.specs.declared.outcome.Outcome.{Outcome}
 use Rattle.dali_machine.specs.declared.outcome.Outcome.TheVariants.{Cycle}

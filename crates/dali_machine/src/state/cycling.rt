@@ -21,8 +21,8 @@ use dali_base::{Moment, OutOfMemory, Places, Seq};
 use dali_line::{Line, Verb};
 use dali_problem::Problem;
 use dali_queue::CycleInput;
-use dali_statement::Ids;
 use dali_tree::{Choice, Part, branchings};
+use dali_waiting::Ids;
 use std::alloc::Global;
 
 impl State {

@@ -16,8 +16,8 @@ use crate::ready::Ready;
 use dali_account::{Move, Net};
 use dali_base::{Name, OutOfMemory, Seq};
 use dali_line::{Line, Verb};
-use dali_statement::{held, waiting};
 use dali_tree::Choice;
+use dali_waiting::{held, waiting};
 use std::alloc::Global;
 
 impl State {

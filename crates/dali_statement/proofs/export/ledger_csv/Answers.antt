@@ -2,8 +2,9 @@ use Rattle.std.proofs.Common.{◌∙◌, ◌++◌, List, ℕ, Some, take, ap, sy
 use Rattle.std.specs.List.{flat_map}
 use Rattle.csv.specs.Writing.{text_written}
 use Rattle.dali_ledger.specs.declared.posting.Posting.{Posting}
-use Rattle.dali_statement.specs.Export.{row_text, header, fields_of}
-use Rattle.dali_statement.proofs.StepLemmas.{flat_map_next}
+use Rattle.dali_statement.specs.Export.{header, fields_of}
+use Rattle.dali_waiting.specs.RowText.{row_text}
+use Rattle.dali_waiting.proofs.StepLemmas.{flat_map_next}
 use Rattle.dali_statement.proofs.RowLemmas.{appended}
 use Rattle.dali_statement.proofs.export.ledger_csv.Goals as goal
 

@@ -1,7 +1,8 @@
 use Rattle.std.proofs.Common.{◌≡◌, ◌++◌, Some, take}
 use Rattle.std.specs.List.{flat_map}
 use Rattle.csv.specs.Writing.{text_written}
-use Rattle.dali_statement.specs.Export.{row_text, header, fields_of}
+use Rattle.dali_statement.specs.Export.{header, fields_of}
+use Rattle.dali_waiting.specs.RowText.{row_text}
 use Rattle.dali_statement.specs.Ready.{IsReady}
 use Rattle.dali_statement.proofs.export.ledger_csv.Given as goal
 

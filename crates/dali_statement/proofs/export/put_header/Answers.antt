@@ -2,7 +2,7 @@ use Rattle.std.proofs.Common.{[], ◌∷◌, subst}
 use Rattle.std.specs.Prelude.{OnOk}
 use Rattle.std.specs.Io.KnownBytes.{Appends}
 use Rattle.csv.specs.Writing.{text_written}
-use Rattle.dali_statement.specs.Export.{row_text}
+use Rattle.dali_waiting.specs.RowText.{row_text}
 use Rattle.dali_statement.proofs.export.put_header.Goals as goal
 
 pub returns-clause-text : goal.returns-clause-text

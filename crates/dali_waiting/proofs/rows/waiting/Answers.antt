@@ -1,8 +1,8 @@
 use Rattle.std.proofs.Common.{◌∙◌, ◌++◌, [], ◌∷◌, List, map, take, ap, sym}
-use Rattle.dali_statement.specs.declared.rows.WaitRow.{WaitRow}
-use Rattle.dali_statement.specs.Rows.{items_of, row_of}
-use Rattle.dali_statement.proofs.StepLemmas.{map_next}
-use Rattle.dali_statement.proofs.rows.waiting.Goals as goal
+use Rattle.dali_waiting.specs.declared.rows.WaitRow.{WaitRow}
+use Rattle.dali_waiting.specs.Rows.{items_of, row_of}
+use Rattle.dali_waiting.proofs.StepLemmas.{map_next}
+use Rattle.dali_waiting.proofs.rows.waiting.Goals as goal
 
 pub loop-place-preserved : goal.loop-place-preserved
 loop-place-preserved c =

@@ -1,9 +1,9 @@
 use Rattle.std.proofs.Common.{◌∙◌, ◌++◌, [], ◌∷◌, List, ℕ, ap, sym}
 use Rattle.dali_queue.specs.declared.instruction.Instruction.{Instruction}
-use Rattle.dali_statement.specs.Rows.{items_of, is_party}
-use Rattle.dali_statement.proofs.StepLemmas.{filter_yes, filter_no}
-use Rattle.dali_statement.proofs.rows.held.Goals.{then-is_party+in_ok-push, else-is_party}
-use Rattle.dali_statement.proofs.rows.held.Goals as goal
+use Rattle.dali_waiting.specs.Rows.{items_of, is_party}
+use Rattle.dali_waiting.proofs.StepLemmas.{filter_yes, filter_no}
+use Rattle.dali_waiting.proofs.rows.held.Goals.{then-is_party+in_ok-push, else-is_party}
+use Rattle.dali_waiting.proofs.rows.held.Goals as goal
 
 pub loop-place-preserved : goal.loop-place-preserved
 loop-place-preserved c =

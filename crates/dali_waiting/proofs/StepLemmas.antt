@@ -29,9 +29,3 @@ module _ {X Y : Type 0} (p : X → Bool) (f : X → Y) (xs : List X) (k : ℕ) (
 
   pub filter_no : p x ≡ false → map f (filter p (take (k + 1) xs)) ≡ map f (filter p (take k xs))
   filter_no told = filtered ∙ ap (λ b. map f (filter p (take k xs)) ++ map f (cond b (x ∷ []) [])) told ∙ append-nil (map f (filter p (take k xs)))
-
--- an item stands at each place below the length
-pub there : {X : Type 0} (xs : List X) (k : ℕ) → k < length xs → IsSome (slice_get xs k)
-there [] k within = absurd (omega (arith, within))
-there (x ∷ xs) zero within = refl
-there (x ∷ xs) (suc k) within = there xs k (omega (arith, within))

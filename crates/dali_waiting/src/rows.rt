@@ -1,6 +1,6 @@
 ghost use Rattle.std.specs.Prelude.{◌≡◌, ◌<◌, Some, length, map, slice_get, IfOk};
 ghost use Rattle.std.specs.Option.{option_map};
-ghost use Rattle.dali_statement.specs.Rows.{items_of, is_party as is_party_of, row_of, waiting_rows, held_ids};
+ghost use Rattle.dali_waiting.specs.Rows.{items_of, is_party as is_party_of, row_of, waiting_rows, held_ids};
 
 use dali_base::{Kind, Name, OutOfMemory, Seq};
 use dali_queue::{Instruction, Queue};

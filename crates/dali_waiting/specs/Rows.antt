@@ -3,7 +3,7 @@ use Rattle.std.specs.List.{filter}
 use Rattle.dali_account.specs.Book.{same_name}
 use Rattle.dali_queue.specs.declared.instruction.Instruction.{Instruction}
 use Rattle.dali_queue.specs.Queue.{QueueRecord}
-use Rattle.dali_statement.specs.declared.rows.WaitRow.{WaitRow}
+use Rattle.dali_waiting.specs.declared.rows.WaitRow.{WaitRow}
 
 -- the queued instructions, in queue order
 abbrev pub items_of : QueueRecord → List Instruction
