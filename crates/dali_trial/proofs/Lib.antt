@@ -1,0 +1,4 @@
+pub mod Choosing
+pub mod Trying
+pub mod Taking
+pub mod Looping
