@@ -1,13 +1,13 @@
 -- How far the next frame was read: its head, its record, or where it ended.
-use Rattle.std.proofs.Common.{◌≡◌, ◌∙◌, inl, inr, ℕ, ◌+◌, ◌<◌, ◌≤◌, Bool, List, [], ◌∷◌, ◌++◌, length, refl, sym, ap, subst, arith, append_assoc, append-nil}
-use Rattle.std.specs.Prelude.{◌^◌, IsTrue}
+use Rattle.std.proofs.Common.{◌≡◌, ◌∙◌, inl, inr, ℕ, ◌+◌, ◌<◌, ◌≤◌, Bool, List, [], ◌++◌, length, refl, sym, ap, subst, arith, append_assoc, append-nil}
+use Rattle.std.specs.Prelude.{◌^◌}
 use Rattle.std.proofs.lemmas.List.{length-append}
-use Rattle.dali_replica.specs.Limits.{most_record, most_stream}
-use Rattle.dali_replica.specs.Frame.{head_text, frame_text, HasHead, EndsWithin, IsOverlong, HasBegun}
-use Rattle.dali_replica.specs.Stream.{ShippedRecord, IsFrame}
+use Rattle.dali_replica.specs.Limits.{most_record}
+use Rattle.dali_replica.specs.Frame.{head_text, frame_text, HasHead, EndsWithin}
+use Rattle.dali_replica.specs.Stream.{ShippedRecord}
 use Rattle.dali_line.specs.Lines.{Reach}
-use Rattle.dali_replica.specs.Reading.{Gets, MeetsFrame, MeetsEnd, FindsOverlong, Stops}
-use Rattle.dali_replica.specs.Intake.{Midway, Dries, AtEnd, AtLimit, Breaks, EndsShort, BreaksShort, LacksRoom, StopsShort}
+use Rattle.dali_replica.specs.Reading.{MeetsFrame, MeetsEnd, FindsOverlong, Stops}
+use Rattle.dali_replica.specs.Intake.{Midway, Dries, AtEnd, Breaks, EndsShort, BreaksShort, LacksRoom, StopsShort}
 use Rattle.dali_replica.specs.declared.refusal.FrameNo.{FrameNo}
 use Rattle.dali_replica.specs.declared.refusal.FrameNo.TheVariants.{ReadFault, BadLength, LongFile, OutOfMemory}
 use Rattle.dali_replica.proofs.Fronts.{frame_length}

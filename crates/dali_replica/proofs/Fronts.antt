@@ -1,12 +1,11 @@
 -- Frames at the front of bytes: there is one, or none, or one that is too long, and never two of these.
-use Rattle.std.proofs.Common.{◌≡◌, ◌⊎◌, ◌∙◌, inl, inr, ℕ, ◌+◌, ◌<◌, ◌≤◌, List, [], ◌∷◌, ◌++◌, length, take, drop, get_or, refl, sym, ap, subst, arith, append_assoc, append-nil}
+use Rattle.std.proofs.Common.{◌≡◌, ◌⊎◌, ◌∙◌, inl, inr, ℕ, ◌+◌, ◌<◌, List, [], ◌∷◌, ◌++◌, length, take, drop, get_or, refl, sym, ap, subst, arith, append_assoc}
 use Rattle.std.specs.Prelude.{◌^◌}
 use Rattle.std.specs.Int.{w32, w64, to_be_bytes, from_be_bytes}
 use Rattle.std.proofs.lemmas.Bool.{cases_lt}
 use Rattle.std.proofs.lemmas.List.{length-append, length-take, length-drop, take_at, drop_at, take-append-drop, get_or-take, get_or-drop, get_or_past}
 use Rattle.std.proofs.lemmas.Nat.{be_bytes_4, be_bytes_8, from_be_bytes-to_be_bytes_4, from_be_bytes-to_be_bytes_8}
-use Rattle.dali_replica.specs.Limits.{most_record}
-use Rattle.dali_replica.specs.Frame.{head_text, frame_text, HasHead, IsLonger, EndsWithin, IsOverlong}
+use Rattle.dali_replica.specs.Frame.{head_text, frame_text, HasHead, EndsWithin, IsOverlong}
 use Rattle.dali_replica.specs.Stream.{ShippedRecord, IsFrame, stream_text, StandFrom, HasFrames}
 
 pub head_length : (number size : ℕ) → length (head_text number size) ≡ 12

@@ -1,4 +1,4 @@
-use Rattle.std.specs.Prelude.{◌≡◌, ℕ, ◌+◌, ◌≤◌, false, length}
+use Rattle.std.specs.Prelude.{◌≡◌, ◌+◌, ◌≤◌, false, length}
 use Rattle.dali_replica.specs.Limits.{most_stream}
 use Rattle.dali_replica.specs.Reading.{Reader}
 use Rattle.dali_replica.specs.declared.frames.Frames.TheInside.{Inside}

@@ -4,6 +4,12 @@ pub mod Stream
 pub mod Reading
 pub mod Intake
 pub mod FramesLayout
+pub mod Judging
+pub mod Shipping
 pub use Rattle.dali_line.specs.Lines
 pub use Rattle.dali_record.specs.IsRecord
 pub use Rattle.dali_record.specs.RecordText
+pub use Rattle.dali_machine.specs.History
+pub use Rattle.dali_machine.specs.Cycles
+pub use Rattle.dali_machine.specs.Step
+pub use Rattle.dali_recover.specs.Damaged

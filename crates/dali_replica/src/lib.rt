@@ -8,6 +8,9 @@
 mod frames;
 mod head;
 mod intake;
+mod judged;
+mod judging;
+mod kept;
 pub mod limits;
 mod record;
 mod refusal;
@@ -15,6 +18,8 @@ mod shipped;
 mod shipping;
 
 pub use frames::Frames;
+pub use judged::Judged;
+pub use judging::judge;
 pub use refusal::FrameNo;
 pub use shipped::Shipped;
 pub use shipping::ship_frame;

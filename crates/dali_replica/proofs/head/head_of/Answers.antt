@@ -1,4 +1,4 @@
-use Rattle.std.proofs.Common.{arith, length}
+use Rattle.std.proofs.Common.{arith}
 use Rattle.dali_replica.proofs.Fronts.{head_again}
 use Rattle.dali_replica.proofs.head.head_of.Goals as goal
 

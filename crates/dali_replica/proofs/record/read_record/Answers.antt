@@ -1,4 +1,4 @@
-use Rattle.std.proofs.Common.{◌≡◌, ◌<◌, ◌++◌, length, sym, subst, arith}
+use Rattle.std.proofs.Common.{◌<◌, ◌++◌, length, sym, subst, arith}
 use Rattle.std.proofs.lemmas.Result.{err_from_is_err_and}
 use Rattle.dali_replica.specs.Intake.{Taken, Midway, reach_of}
 use Rattle.dali_replica.proofs.Midways.{breaks_short}

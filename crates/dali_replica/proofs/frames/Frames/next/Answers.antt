@@ -1,6 +1,5 @@
-use Rattle.std.proofs.Common.{◌≡◌, ◌∙◌, ◌+◌, ◌<◌, ◌≤◌, length, refl, sym, ap, subst, arith}
+use Rattle.std.proofs.Common.{◌≡◌, ◌∙◌, refl, ap, subst, arith}
 use Rattle.std.specs.Prelude.{IfSome}
-use Rattle.dali_replica.specs.Frame.{frame_text}
 use Rattle.dali_replica.specs.Intake.{reach_of}
 use Rattle.dali_replica.specs.Reading.{Reader, MeetsFrame, reached}
 use Rattle.dali_replica.specs.Stream.{ShippedRecord}

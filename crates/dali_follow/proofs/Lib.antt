@@ -1,0 +1,12 @@
+pub mod Takings
+pub mod Streams
+pub mod Standing
+pub mod Ended
+pub mod Added
+pub mod Runs
+pub mod Prefixes
+pub mod Leaving
+pub mod Exactly
+pub mod Parses
+pub mod Primaries
+pub mod Promised

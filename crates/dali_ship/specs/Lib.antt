@@ -1,0 +1,12 @@
+pub mod Shipping
+pub mod ShipRun
+pub mod Printing
+pub mod Ending
+pub use Rattle.dali_outside.specs.Outside
+pub use Rattle.dali_outside.specs.Stops
+pub use Rattle.dali_journal.specs.Holds
+pub use Rattle.dali_journal.specs.Appends
+pub use Rattle.dali_machine.specs.History
+pub use Rattle.dali_recover.specs.Spells
+pub use Rattle.dali_recover.specs.Damaged
+pub use Rattle.dali_replica.specs.Stream
