@@ -25,7 +25,7 @@ use dali_base::Words;
 use dali_desk::{Job, Status, plan, run};
 use ending::end;
 use file_site::FileSite;
-use opening::{create_file, open_file};
+use opening::{create_file, open_file, open_to_read};
 use std::fs::File;
 use std::io::Stdout;
 use std::process::ExitCode;
@@ -44,8 +44,8 @@ fn main(rt: HostRuntime) -> ExitCode {
     end(&status, &mut rt.stderr())
 }
 
-/// The site of these words: the file that the second one names, and standard output. Only `init` makes a file. `check` and
-/// `gen` use none, and where the file can't be had, the site has none.
+/// The site of these words: the file that the second one names, and standard output. Only `init` makes a file. `check`,
+/// `gen` and `trial` use none, `export` and `ship` read it alone, and where the file can't be had, the site has none.
 fn site_of(rt: &HostRuntime, words: &Words) -> FileSite<File, Stdout>
     ensures { (size : ℕ) → IsJob words.now (Job.Init size) → result.size ≡ size }
 {
@@ -56,11 +56,19 @@ fn site_of(rt: &HostRuntime, words: &Words) -> FileSite<File, Stdout>
     let stdout = rt.stdout();
     match plan(words) {
         Ok(Job::Init { size }) => FileSite::new(create_file(rt, path, size), size, stdout),
-        Ok(Job::Day | Job::Export | Job::Raise) => match open_file(rt, path) {
-            Some((file, size)) => FileSite::new(Some(file), size, stdout),
-            None => FileSite::new(None, 0, stdout),
-        },
-        Ok(Job::Check | Job::Gen { .. }) => FileSite::new(None, 0, stdout),
+        Ok(Job::Day | Job::Raise | Job::Gate | Job::Follow) => {
+            site_over(open_file(rt, path), stdout)
+        }
+        Ok(Job::Export | Job::Ship) => site_over(open_to_read(rt, path), stdout),
+        Ok(Job::Check | Job::Gen { .. } | Job::Trial { .. }) => FileSite::new(None, 0, stdout),
         Err(_) => FileSite::new(None, 0, stdout),
+    }
+}
+
+/// The site over a file of so many bytes, or over none.
+fn site_over(opened: Option<(File, u64)>, stdout: Stdout) -> FileSite<File, Stdout> {
+    match opened {
+        Some((file, size)) => FileSite::new(Some(file), size, stdout),
+        None => FileSite::new(None, 0, stdout),
     }
 }

@@ -14,7 +14,17 @@ const STREAMS_FOLDER: &str = "/proc/self/fd";
 pub fn open_file(files: &impl Files<File = File>, path: &str) -> Option<(File, u64)> {
     let mut how = OpenOptions::new();
     how.read(true).write(true);
-    let file = held(files, how.open(files, path).ok()?)?;
+    sized(files, how.open(files, path).ok()?)
+}
+
+/// The same for reading alone, so that a journal that may not be written will do.
+pub fn open_to_read(files: &impl Files<File = File>, path: &str) -> Option<(File, u64)> {
+    sized(files, File::open(files, path).ok()?)
+}
+
+/// The file, held by this program alone, and its size in bytes.
+fn sized(files: &impl Files<File = File>, file: File) -> Option<(File, u64)> {
+    let file = held(files, file)?;
     let size = file.metadata().ok()?.len();
     Some((file, size))
 }

@@ -1,5 +1,5 @@
 use crate::file_site::FileSite;
-use crate::opening::{create_file, open_file};
+use crate::opening::{create_file, open_file, open_to_read};
 use crate::streams::{print_all, read_some};
 use dali_outside::{Failed, Site};
 use std::io::{Error, ErrorKind, Read, Result, Write};
@@ -28,6 +28,12 @@ fn a_file_keeps_what_is_written(rt: HostRuntime) -> std::result::Result<(), Fail
     let mut opened = FileSite::new(Some(file), 64, rt.stdout());
     assert!(rt; opened.read(15, &mut into).is_ok());
     assert_eq!(rt; &into, b"\0abc");
+    drop(opened);
+
+    let (file, _) = open_to_read(&rt, PATH).ok_or("no file")?;
+    let mut shown = FileSite::new(Some(file), 64, rt.stdout());
+    assert!(rt; shown.read(15, &mut into).is_ok());
+    assert!(rt; shown.write(15, b"d").is_err());
     let _ = std::fs::remove_file(&rt, PATH);
     Ok(())
 }

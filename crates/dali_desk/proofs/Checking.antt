@@ -16,9 +16,9 @@ use Rattle.dali_desk.specs.declared.input.InputNo.{InputNo}
 use Rattle.dali_desk.specs.declared.input.InputNo.TheVariants as inputs
 use Rattle.dali_desk.specs.Texts.{LeavesText, Quiet}
 use Rattle.dali_desk.specs.Limits.{most_checked}
-use Rattle.dali_desk.specs.Input.{TakesWhole, EndsInput}
+use Rattle.dali_desk.specs.Input.{TakesWhole, EndsInput, status_of_unread}
 use Rattle.dali_desk.specs.CheckRun.{EndsCheck, CheckTakes, CheckFinds, CheckPrints, IsChecked, Says, CheckRun}
-use Rattle.dali_desk.specs.Judging.{SaysInPart, Judges, status_of_unread, status_of_verdict}
+use Rattle.dali_desk.specs.Judging.{SaysInPart, Judges, status_of_verdict}
 use Rattle.dali_desk.proofs.Printing.{quiet_start}
 use Rattle.dali_desk.proofs.Stopping.{stops_start}
 

@@ -5,3 +5,5 @@ pub mod Stopping
 pub mod Twice
 pub mod Gathering
 pub mod Checking
+pub mod Merging
+pub mod Gating

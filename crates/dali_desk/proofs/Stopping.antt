@@ -6,7 +6,7 @@ use Rattle.dali_outside.proofs.Moments.{leaves_start, leaves_put, leaves_on, lea
 use Rattle.dali_register.specs.Front.{IsFront}
 use Rattle.dali_desk.specs.Texts.{LeavesText}
 
-take_none : (n : ℕ) → take {A = ℕ} n [] ≡ []
+pub take_none : (n : ℕ) → take {A = ℕ} n [] ≡ []
 take_none zero = refl
 take_none (suc n) = refl
 

@@ -40,7 +40,7 @@ done_only ends.LongFile is = absurd (Prim.cc)
 done_only (ends.JournalFull need left) is = absurd (Prim.cc)
 done_only ends.OutOfMemory is = absurd (Prim.cc)
 
-read_only : (e : DayEnd) → status_of_day e ≡ ReadFault → e ≡ ends.ReadFault
+pub read_only : (e : DayEnd) → status_of_day e ≡ ReadFault → e ≡ ends.ReadFault
 read_only ends.Done is = absurd (Prim.cc)
 read_only ends.ReadFault is = refl
 read_only ends.PrintFault is = absurd (Prim.cc)
@@ -52,7 +52,7 @@ read_only ends.LongFile is = absurd (Prim.cc)
 read_only (ends.JournalFull need left) is = absurd (Prim.cc)
 read_only ends.OutOfMemory is = absurd (Prim.cc)
 
-print_only : (e : DayEnd) → status_of_day e ≡ PrintFault → e ≡ ends.PrintFault
+pub print_only : (e : DayEnd) → status_of_day e ≡ PrintFault → e ≡ ends.PrintFault
 print_only ends.Done is = absurd (Prim.cc)
 print_only ends.ReadFault is = absurd (Prim.cc)
 print_only ends.PrintFault is = refl
@@ -64,7 +64,7 @@ print_only ends.LongFile is = absurd (Prim.cc)
 print_only (ends.JournalFull need left) is = absurd (Prim.cc)
 print_only ends.OutOfMemory is = absurd (Prim.cc)
 
-disk_only : (e : DayEnd) → status_of_day e ≡ DiskFault → e ≡ ends.DiskFault
+pub disk_only : (e : DayEnd) → status_of_day e ≡ DiskFault → e ≡ ends.DiskFault
 disk_only ends.Done is = absurd (Prim.cc)
 disk_only ends.ReadFault is = absurd (Prim.cc)
 disk_only ends.PrintFault is = absurd (Prim.cc)

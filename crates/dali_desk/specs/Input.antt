@@ -2,6 +2,8 @@ use Rattle.std.specs.Prelude.{◌≡◌, ℕ, ◌+◌, ◌≤◌, Bool, IsTrue, 
 use Rattle.dali_outside.specs.Outside.{Feed, Rose}
 use Rattle.dali_desk.specs.declared.input.InputNo.{InputNo}
 use Rattle.dali_desk.specs.declared.input.InputNo.TheVariants as inputs
+use Rattle.dali_desk.specs.declared.status.Status.{Status}
+use Rattle.dali_desk.specs.declared.status.Status.TheVariants.{ReadFault, LongFile, OutOfMemory}
 
 -- What reading a whole input of at most so many bytes comes to.
 
@@ -44,3 +46,9 @@ EndsInput told most old new (Ok bytes) = TakesWhole told most old bytes new
 EndsInput told most old new (Err inputs.ReadFault) = BreaksOff told most old new
 EndsInput told most old new (Err inputs.LongFile) = PassesMost told most old new
 EndsInput told most old new (Err inputs.OutOfMemory) = WantsMemory told most old new
+
+-- the status that stands for an input that wasn't read whole
+abbrev pub status_of_unread : InputNo → Status
+status_of_unread inputs.ReadFault = ReadFault
+status_of_unread inputs.LongFile = LongFile
+status_of_unread inputs.OutOfMemory = OutOfMemory

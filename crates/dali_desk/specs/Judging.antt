@@ -6,18 +6,10 @@ use Rattle.dali_verdict.specs.declared.verdict.Verdict.TheVariants as verdicts
 use Rattle.dali_register.specs.Front.{PrintsFront}
 use Rattle.dali_desk.specs.Texts.{LeavesText, Quiet}
 use Rattle.dali_desk.specs.CheckRun.{Says}
-use Rattle.dali_desk.specs.declared.input.InputNo.{InputNo}
-use Rattle.dali_desk.specs.declared.input.InputNo.TheVariants as inputs
 use Rattle.dali_desk.specs.declared.status.Status.{Status}
-use Rattle.dali_desk.specs.declared.status.Status.TheVariants.{Done, Invalid, ReadFault, PrintFault, LongFile, OutOfMemory}
+use Rattle.dali_desk.specs.declared.status.Status.TheVariants.{Done, Invalid, PrintFault, OutOfMemory}
 
 -- How the judging of bytes ends, for a private function.
-
--- the status that stands for an input that wasn't read whole
-abbrev pub status_of_unread : InputNo → Status
-status_of_unread inputs.ReadFault = ReadFault
-status_of_unread inputs.LongFile = LongFile
-status_of_unread inputs.OutOfMemory = OutOfMemory
 
 -- the status that a verdict stands for
 abbrev pub status_of_verdict : Verdict → Status

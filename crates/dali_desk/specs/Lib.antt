@@ -5,10 +5,17 @@ pub mod Texts
 pub mod DayOver
 pub mod Twice
 pub mod Upkeep
+pub mod Replica
 pub mod InitRun
 pub mod Input
 pub mod CheckRun
+pub mod GateOver
 pub mod Judging
+pub use Rattle.dali_gateway.specs.Form
+pub use Rattle.dali_gateway.specs.Merge
+pub use Rattle.dali_gateway.specs.Order
+pub use Rattle.dali_day.specs.CrashPrefix
+pub use Rattle.dali_day.specs.Complete
 pub use Rattle.dali_day.specs.DayRun
 pub use Rattle.dali_day.specs.Promises
 pub use Rattle.dali_register.specs.Front

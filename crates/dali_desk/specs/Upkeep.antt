@@ -1,9 +1,10 @@
-use Rattle.std.specs.Prelude.{◌≡◌, ℕ, Bool, Result, Ok, Err}
+use Rattle.std.specs.Prelude.{◌≡◌, ◌⊎◌, ℕ, Bool, List, Result, Ok, Err}
 use Rattle.dali_gen.specs.Day.{generated}
 use Rattle.dali_outside.specs.Outside.{Sight}
 use Rattle.dali_put.specs.PutRun.{PutRun}
 use Rattle.dali_put.specs.declared.refusal.PutNo.{PutNo}
 use Rattle.dali_put.specs.declared.refusal.PutNo.TheVariants as puts
+use Rattle.dali_trial.specs.Tried.{TrialRun}
 use Rattle.dali_upkeep.specs.ExportRun.{ExportRun}
 use Rattle.dali_upkeep.specs.RaiseRun.{RaiseRun}
 use Rattle.dali_upkeep.specs.declared.export.ExportEnd.{ExportEnd}
@@ -49,3 +50,15 @@ pub record GenOver (n : ℕ) (told : Bool) (old new : Sight) (status : Status) :
   pub end : Result Unit PutNo
   pub status_is : status ≡ status_of_put end
   pub run : PutRun told (generated n) old new end
+
+-- the summary of a trial of the generated day was printed in one put, or it wasn't printed whole
+pub record SaysTrial (n : ℕ) (told : Bool) (old new : Sight) (status : Status) : Type 0 where
+  pub text : List ℕ
+  pub trial : TrialRun n text
+  pub end : Result Unit PutNo
+  pub status_is : status ≡ status_of_put end
+  pub run : PutRun told text old new end
+
+-- what a run of `trial` does; memory may be wanted before there is a summary, and then nothing was done
+abbrev pub TrialOver : ℕ → Bool → Sight → Sight → Status → Type 0
+TrialOver n told old new status = SaysTrial n told old new status ⊎ ((status ≡ OutOfMemory) × (new ≡ old))

@@ -1,8 +1,8 @@
 ghost use Rattle.std.specs.Prelude.{◌≡◌};
 ghost use Rattle.dali_desk.specs.CheckRun.{CheckRun};
-ghost use Rattle.dali_desk.specs.Judging.{Judges, status_of_unread, status_of_verdict};
+ghost use Rattle.dali_desk.specs.Judging.{Judges, status_of_verdict};
 
-use crate::input::{InputNo, read_input};
+use crate::input::{read_input, status_of_unread};
 use crate::status::Status;
 use dali_outside::{Failed, Site, Source};
 use dali_verdict::{Verdict, judge, verdict_line};
@@ -34,17 +34,6 @@ fn say<T: Site>(alloc: Global, bytes: &[u8], site: &mut T) -> Status
     match site.put(line.bytes()) {
         Ok(()) => status_of_verdict(verdict),
         Err(Failed) => Status::PrintFault,
-    }
-}
-
-/// How a check ends whose input wasn't read whole.
-fn status_of_unread(refusal: InputNo) -> Status
-    ensures { result ≡ status_of_unread refusal }
-{
-    match refusal {
-        InputNo::ReadFault => Status::ReadFault,
-        InputNo::LongFile => Status::LongFile,
-        InputNo::OutOfMemory => Status::OutOfMemory,
     }
 }
 

@@ -2,15 +2,19 @@ ghost use Rattle.std.specs.Prelude.{◌≡◌, ◌↔◌, ℕ};
 ghost use Rattle.dali_desk.specs.Words.{IsJob};
 ghost use Rattle.dali_desk.specs.CheckRun.{CheckRun};
 ghost use Rattle.dali_desk.specs.DayOver.{DayOver};
+ghost use Rattle.dali_desk.specs.GateOver.{GateOver};
 ghost use Rattle.dali_desk.specs.InitRun.{InitRun};
-ghost use Rattle.dali_desk.specs.Upkeep.{ExportOver, GenOver, RaiseOver};
+ghost use Rattle.dali_desk.specs.Replica.{FollowOver, ShipOver};
+ghost use Rattle.dali_desk.specs.Upkeep.{ExportOver, GenOver, RaiseOver, TrialOver};
 
 use crate::check::check_input;
 use crate::day::run_day;
+use crate::gate::run_gate;
 use crate::init::make_journal;
 use crate::job::{Job, plan};
+use crate::replica::{run_follow, run_ship};
 use crate::status::Status;
-use crate::upkeep::{run_export, run_gen, run_raise};
+use crate::upkeep::{run_export, run_gen, run_raise, run_trial};
 use dali_base::Words;
 use dali_outside::{Site, Source};
 use std::alloc::Global;
@@ -18,10 +22,10 @@ use std::alloc::Global;
 /// Does what the words ask for, with `day` as its input and `site` as its disk and console, and answers how it ended.
 ///
 /// The table of words is defined in `specs/Words.antt`, what a run of `init` does in `specs/InitRun.antt`, what one of
-/// `check` does in `specs/CheckRun.antt`, and what one of `day` does in `specs/DayOver.antt`, over its journal, and what `export`, `raise` and `gen` do in
-/// `specs/Upkeep.antt`. With words
-/// that are none of the table nothing is read, written or printed. Where the words are `init JOURNAL SIZE`, the site's
-/// size is SIZE.
+/// `check` does in `specs/CheckRun.antt`, what one of `day` does over its journal in `specs/DayOver.antt`, what one of
+/// `gate` does in `specs/GateOver.antt`, what `export`, `raise`, `gen` and `trial` do in `specs/Upkeep.antt`, and what `ship`
+/// and `follow` do in `specs/Replica.antt`. With words that are none of the table nothing is read, written or printed. Where
+/// the words are `init JOURNAL SIZE`, the site's size is SIZE.
 pub fn run<S: Source, T: Site>(alloc: Global, words: &Words, day: &mut S, site: &mut T) -> Status
     requires size { (size : ℕ) → IsJob words.now (Job.Init size) → (T.sight site.old).size ≡ size }
     ensures usage { (result ≡ Status.Usage) ↔ ((job : _) → IsJob words.now job → ⊥) }
@@ -31,7 +35,11 @@ pub fn run<S: Source, T: Site>(alloc: Global, words: &Words, day: &mut S, site: 
     ensures day { IsJob words.now Job.Day → DayOver S.tells T.tells (S.feed day.old) (S.feed day.new) (T.sight site.old) (T.sight site.new) result }
     ensures exports { IsJob words.now Job.Export → (S.feed day.new ≡ S.feed day.old) × ExportOver T.tells (T.sight site.old) (T.sight site.new) result }
     ensures generates { (n : ℕ) → IsJob words.now (Job.Gen n) → (S.feed day.new ≡ S.feed day.old) × GenOver n T.tells (T.sight site.old) (T.sight site.new) result }
+    ensures tries { (n : ℕ) → IsJob words.now (Job.Trial n) → (S.feed day.new ≡ S.feed day.old) × TrialOver n T.tells (T.sight site.old) (T.sight site.new) result }
+    ensures gate { IsJob words.now Job.Gate → GateOver S.tells T.tells (S.feed day.old) (S.feed day.new) (T.sight site.old) (T.sight site.new) result }
     ensures raises { IsJob words.now Job.Raise → (S.feed day.new ≡ S.feed day.old) × RaiseOver T.tells (T.sight site.old) (T.sight site.new) result }
+    ensures ships { IsJob words.now Job.Ship → (S.feed day.new ≡ S.feed day.old) × ShipOver T.tells (T.sight site.old) (T.sight site.new) result }
+    ensures follows { IsJob words.now Job.Follow → FollowOver S.tells T.tells (S.feed day.old) (S.feed day.new) (T.sight site.old) (T.sight site.new) result }
 {
     match plan(words) {
         Ok(Job::Init { .. }) => make_journal(site),
@@ -40,6 +48,10 @@ pub fn run<S: Source, T: Site>(alloc: Global, words: &Words, day: &mut S, site: 
         Ok(Job::Export) => run_export(alloc, site),
         Ok(Job::Gen { n }) => run_gen(alloc, n, site),
         Ok(Job::Raise) => run_raise(alloc, site),
+        Ok(Job::Trial { n }) => run_trial(alloc, n, site),
+        Ok(Job::Gate) => run_gate(alloc, day, site),
+        Ok(Job::Ship) => run_ship(alloc, site),
+        Ok(Job::Follow) => run_follow(alloc, day, site),
         Err(_) => Status::Usage,
     }
 }

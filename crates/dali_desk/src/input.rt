@@ -1,7 +1,8 @@
 ghost use Rattle.std.specs.Prelude.{◌≡◌, ◌+◌, ◌<◌, ◌≤◌, ◌^◌, [], true, false, length, Err, IfOk, IfErr, OnOk, IsTrue};
 ghost use Rattle.dali_outside.specs.Outside.{Feed};
-ghost use Rattle.dali_desk.specs.Input.{Gathers, EndsInput};
+ghost use Rattle.dali_desk.specs.Input.{Gathers, EndsInput, status_of_unread};
 
+use crate::status::Status;
 use dali_base::Text;
 use dali_outside::Source;
 use std::alloc::Global;
@@ -73,5 +74,16 @@ fn take_piece<S: Source>(
     match bytes.add(&piece[..n]) {
         Ok(()) => Ok(true),
         Err(_) => Err(InputNo::OutOfMemory),
+    }
+}
+
+/// The status of a run whose input wasn't read whole.
+pub(crate) fn status_of_unread(refusal: InputNo) -> Status
+    ensures { result ≡ status_of_unread refusal }
+{
+    match refusal {
+        InputNo::ReadFault => Status::ReadFault,
+        InputNo::LongFile => Status::LongFile,
+        InputNo::OutOfMemory => Status::OutOfMemory,
     }
 }

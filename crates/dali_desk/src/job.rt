@@ -23,8 +23,16 @@ pub enum Job {
     Export,
     /// `gen N`: prints the generated day file of N, 1 to 64.
     Gen { n: u32 },
+    /// `trial N`: prints the summary of a trial of the generated day of N, 1 to 64.
+    Trial { n: u32 },
     /// `raise JOURNAL`: raises the journal by one edition.
     Raise,
+    /// `gate JOURNAL`: takes the commands of several inboxes, as a list of turns merges them.
+    Gate,
+    /// `ship JOURNAL`: prints the frames of the journal's commands.
+    Ship,
+    /// `follow JOURNAL`: takes the frames of a stream into the journal.
+    Follow,
 }
 
 /// The words are none of the table.
@@ -40,6 +48,7 @@ pub fn plan(words: &Words) -> Result<Job, Usage>
     match words.as_slice() {
         [word] if is_word(word, b"check") => Ok(Job::Check),
         [word, n] if is_word(word, b"gen") => generated(n),
+        [word, n] if is_word(word, b"trial") => tried(n),
         [word, path] if is_path(path) => over_journal(word),
         [word, path, size] if is_word(word, b"init") && is_path(path) => init(size),
         _ => Err(Usage),
@@ -60,6 +69,15 @@ fn over_journal(word: &Text) -> Result<Job, Usage>
     if is_word(word, b"raise") {
         return Ok(Job::Raise);
     }
+    if is_word(word, b"gate") {
+        return Ok(Job::Gate);
+    }
+    if is_word(word, b"ship") {
+        return Ok(Job::Ship);
+    }
+    if is_word(word, b"follow") {
+        return Ok(Job::Follow);
+    }
     Err(Usage)
 }
 
@@ -68,13 +86,31 @@ fn generated(n: &Text) -> Result<Job, Usage>
     ensures ok { IfOk result (λ job. (k : ℕ) × (job ≡ Job.Gen k) × (1 ≤ k) × (k ≤ most_number) × (n.now ≡ decimal k)) }
     ensures usage { OnErr result ((k : ℕ) → 1 ≤ k → k ≤ most_number → n.now ≡ decimal k → ⊥) }
 {
+    let n = day_number(n)?;
+    Ok(Job::Gen { n })
+}
+
+/// The job of `trial` with this number.
+fn tried(n: &Text) -> Result<Job, Usage>
+    ensures ok { IfOk result (λ job. (k : ℕ) × (job ≡ Job.Trial k) × (1 ≤ k) × (k ≤ most_number) × (n.now ≡ decimal k)) }
+    ensures usage { OnErr result ((k : ℕ) → 1 ≤ k → k ≤ most_number → n.now ≡ decimal k → ⊥) }
+{
+    let n = day_number(n)?;
+    Ok(Job::Trial { n })
+}
+
+/// The number of a generated day.
+fn day_number(n: &Text) -> Result<u32, Usage>
+    ensures ok { IfOk result (λ k. (1 ≤ k) × (k ≤ most_number) × (n.now ≡ decimal k)) }
+    ensures usage { OnErr result ((k : ℕ) → 1 ≤ k → k ≤ most_number → n.now ≡ decimal k → ⊥) }
+{
     let Some(n) = read_number(n.bytes(), MOST_NUMBER as u64) else {
         return Err(Usage);
     };
     if n == 0 {
         return Err(Usage);
     }
-    Ok(Job::Gen { n: n as u32 })
+    Ok(n as u32)
 }
 
 /// The job of `init` with this size.

@@ -2,17 +2,21 @@
 //!
 //! The promise to the program: `run` with `init` leaves an empty journal (`specs/InitRun.antt`), `run` with `day` takes
 //! the commands of the file over a journal, so that at every stop the device spells a legal history of the first of them,
-//! whose replies begin with all that was printed, `run` with `check` says whether its input is a block of an allowed
-//! choice, and every status comes by its cause (`specs/DayOver.antt`, `specs/CheckRun.antt`).
+//! whose replies begin with all that was printed, `run` with `gate` takes the merge of several inboxes as such a file, so
+//! that of each inbox the commands kept are its first ones (`specs/GateOver.antt`), `run` with `check` says whether its
+//! input is a block of an allowed choice, and every status comes by its cause (`specs/DayOver.antt`,
+//! `specs/CheckRun.antt`).
 #![tactic(auto)]
 
 mod check;
 mod day;
 mod desk;
+mod gate;
 mod init;
 mod input;
 mod job;
 pub mod limits;
+mod replica;
 mod rerun;
 mod status;
 #[cfg(test)]

@@ -7,8 +7,9 @@ use dali_verdict::Why;
 /// How a run ended.
 #[derive(Clone, Copy, Debug, PartialEq, Eq)]
 pub enum Status {
-    /// Of `day` the input was read to its end, each command stands in the journal, and its reply was printed; of `check` the verdict was printed, and the input is a
-    /// block of an allowed choice; of `init` the journal was made.
+    /// Of `day` the input was read to its end, each command stands in the journal, and its reply was printed, and of `gate`
+    /// so with the merge of its inboxes; of `check` the verdict was printed, and the input is a block of an allowed choice;
+    /// of `init` the journal was made.
     Done,
     /// Of `check` the verdict was printed, and the input isn't a block of an allowed choice, for this reason.
     Invalid(Why),
@@ -28,13 +29,15 @@ pub enum Status {
     /// This command, counted from 1, has more than 200 bytes.
     LongLine { command: u64 },
     /// Of `day` the next command doesn't end within the 67,108,864 bytes that a day file may have, and there was one byte
-    /// more; of `check` the input has more than 1,073,741,824 bytes.
+    /// more; of `gate` the input has more than 67,108,864 bytes, or the merge is such a file; of `check` the input has more
+    /// than 1,073,741,824 bytes.
     LongFile,
     /// The next record doesn't fit into the journal: the bytes that it needs, and the bytes left.
     JournalFull { need: u64, left: u64 },
     /// Memory was wanted and wasn't there.
     OutOfMemory,
-    /// Of `gate` the input is none, from this place on, counted from 0.
+    /// Of `gate` the whole input was read and is no gateway input: the length of its longest front with which some gateway
+    /// input begins. Nothing was read from the site or printed.
     NoGate { place: u64 },
     /// Of `follow` the frame at this place of the stream, counted from 0, is none that may come.
     BadFrame { place: u64 },

@@ -72,7 +72,7 @@ fn no_words(rt: HostRuntime) -> Result<(), Fail> {
 
 #[test]
 fn status_lines(rt: HostRuntime) {
-    let cases: [(Status, &[u8], u8); 17] = [
+    let cases: [(Status, &[u8], u8); 8] = [
         (Status::Done, b"", 0),
         (Status::Invalid(Why::Form { line: 1 }), b"dali: invalid", 1),
         (
@@ -83,29 +83,25 @@ fn status_lines(rt: HostRuntime) {
         (Status::ReadFault, b"dali: read fault", 3),
         (Status::PrintFault, b"dali: print fault", 4),
         (Status::DiskFault, b"dali: disk fault", 5),
+        (Status::LongFile, b"dali: long file", 9),
+        (Status::OutOfMemory, b"dali: out of memory", 11),
+    ];
+    for (status, line, number) in cases {
+        let mut into = [0; 160];
+        let len = status_line(&status, &mut into);
+        assert!(rt; len <= 160);
+        assert_eq!(rt; &into[..len], line);
+        assert_eq!(rt; exit_number(&status), number);
+    }
+}
+
+#[test]
+fn status_lines_with_numbers(rt: HostRuntime) {
+    let (place, command, why) = (u64::MAX, u64::MAX, Damage::Illegal);
+    let (need, left) = (u64::MAX, u64::MAX);
+    let cases: [(Status, &[u8], u8); 6] = [
         (
-            Status::LongLine { command: 1 },
-            b"dali: long line at command 1",
-            8,
-        ),
-        (
-            Status::LongLine { command: u64::MAX },
-            b"dali: long line at command 18446744073709551615",
-            8,
-        ),
-        (
-            Status::Damaged {
-                place: 16,
-                why: Damage::Length,
-            },
-            b"dali: damaged at 16: length",
-            6,
-        ),
-        (
-            Status::Damaged {
-                place: u64::MAX,
-                why: Damage::Illegal,
-            },
+            Status::Damaged { place, why },
             b"dali: damaged at 18446744073709551615: illegal",
             6,
         ),
@@ -114,17 +110,13 @@ fn status_lines(rt: HostRuntime) {
             b"dali: other day at command 2",
             7,
         ),
-        (Status::LongFile, b"dali: long file", 9),
         (
-            Status::JournalFull { need: 23, left: 4 },
-            b"dali: journal full: need 23, left 4",
-            10,
+            Status::LongLine { command },
+            b"dali: long line at command 18446744073709551615",
+            8,
         ),
         (
-            Status::JournalFull {
-                need: u64::MAX,
-                left: u64::MAX,
-            },
+            Status::JournalFull { need, left },
             b"dali: journal full: need 18446744073709551615, left 18446744073709551615",
             10,
         ),
@@ -134,7 +126,6 @@ fn status_lines(rt: HostRuntime) {
             12,
         ),
         (Status::BadFrame { place: 96 }, b"dali: bad frame at 96", 13),
-        (Status::OutOfMemory, b"dali: out of memory", 11),
     ];
     for (status, line, number) in cases {
         let mut into = [0; 160];
@@ -244,6 +235,60 @@ fn a_check_whose_read_or_print_fails(rt: HostRuntime) -> Result<(), Fail> {
     ];
     for (read, print, wanted, shown) in rows {
         let (status, printed) = checked(rt.alloc(), BLOCK, read, print)?;
+        assert_eq!(rt; status, wanted);
+        assert_eq!(rt; printed.bytes(), shown);
+    }
+    Ok(())
+}
+
+/// The words `gate J`.
+fn gate_words(alloc: Global) -> Result<Words, OutOfMemory>
+    ensures { IfOk result (λ words. words ≡ codes "gate" ∷ codes "J" ∷ []) }
+{
+    let mut words = Words::new(alloc);
+    words.push(text(alloc, b"gate")?)?;
+    words.push(text(alloc, b"J")?)?;
+    Ok(words)
+}
+
+/// An empty journal of edition 1.
+fn empty_journal(alloc: Global) -> Result<Text, OutOfMemory> {
+    let mut image = text(alloc, b"DALI-JOURNAL\0\0\0\x01")?;
+    for _ in 0..240 {
+        image.push(0)?;
+    }
+    Ok(image)
+}
+
+/// How `gate J` over an empty journal ends that reads this input in pieces of 20 bytes, and what it prints.
+fn gated(alloc: Global, input: &[u8]) -> Result<(Status, Text), OutOfMemory> {
+    let words = gate_words(alloc)?;
+    let mut source = MemSource::new(text(alloc, input)?, 20, Faults::new(alloc));
+    let image = empty_journal(alloc)?;
+    let mut site = MemSite::from_image(alloc, image, 64, 32, 512, Faults::new(alloc))?;
+    let status = run(alloc, &words, &mut source, &mut site);
+    Ok((status, text(alloc, site.printed())?))
+}
+
+/// The commands of two inboxes by turns, which may be used up; and inputs that are none.
+#[test]
+fn inboxes_are_merged(rt: HostRuntime) -> Result<(), Fail> {
+    let rows: [(&[u8], Status, &[u8]); 4] = [
+        (
+            b"GATE,2\nINBOX,35\n080000,PART,A\n080001,ISSUE,A,MXN,5\n\nINBOX,14\n080000,PART,B\n\nTURNS,4\nABBA\n",
+            Status::Done,
+            b"1,OK\n2,OK\n3,OK\n",
+        ),
+        (
+            b"GATE,2\nINBOX,35\n080000,PART,A\n080001,ISSUE,A,MXN,5\n\nINBOX,14\n080000,PART,B\n\nTURNS,3\nAAB\n",
+            Status::Done,
+            b"1,OK\n2,OK\n3,NO,BACK\n",
+        ),
+        (b"GATE,0", Status::NoGate { place: 5 }, b""),
+        (b"", Status::NoGate { place: 0 }, b""),
+    ];
+    for (input, wanted, shown) in rows {
+        let (status, printed) = gated(rt.alloc(), input)?;
         assert_eq!(rt; status, wanted);
         assert_eq!(rt; printed.bytes(), shown);
     }

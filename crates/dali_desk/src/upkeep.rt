@@ -1,11 +1,12 @@
 ghost use Rattle.std.specs.Prelude.{◌≡◌};
 ghost use Rattle.dali_gen.specs.Day.{IsDayNumber};
-ghost use Rattle.dali_desk.specs.Upkeep.{ExportOver, GenOver, RaiseOver, status_of_export, status_of_put, status_of_raise};
+ghost use Rattle.dali_desk.specs.Upkeep.{ExportOver, GenOver, RaiseOver, TrialOver, status_of_export, status_of_put, status_of_raise};
 
 use crate::status::Status;
 use dali_gen::generate;
 use dali_outside::Site;
 use dali_put::{PutNo, put};
+use dali_trial::trial;
 use dali_upkeep::{ExportEnd, RaiseEnd, export_journal, raise_journal};
 use std::alloc::Global;
 
@@ -29,6 +30,17 @@ pub(crate) fn run_gen<T: Site>(alloc: Global, n: u32, site: &mut T) -> Status
     ensures { GenOver n T.tells (T.sight site.old) (T.sight site.new) result }
 {
     let Ok(text) = generate(alloc, n) else {
+        return Status::OutOfMemory;
+    };
+    status_of_put(put(&text, site))
+}
+
+/// Prints the summary of a trial of the generated day of a number.
+pub(crate) fn run_trial<T: Site>(alloc: Global, n: u32, site: &mut T) -> Status
+    requires { IsDayNumber n }
+    ensures { TrialOver n T.tells (T.sight site.old) (T.sight site.new) result }
+{
+    let Ok(text) = trial(alloc, n) else {
         return Status::OutOfMemory;
     };
     status_of_put(put(&text, site))

@@ -1,8 +1,8 @@
 use Rattle.std.proofs.Common.{◌≤◌, refl, sym, subst}
-use Rattle.dali_desk.specs.declared.job.Job.TheVariants.{Init, Day, Check, Export, Gen, Raise}
-use Rattle.dali_desk.specs.Upkeep.{GenOver}
+use Rattle.dali_desk.specs.declared.job.Job.TheVariants.{Init, Day, Check, Export, Gen, Trial, Raise, Gate, Ship, Follow}
+use Rattle.dali_desk.specs.Upkeep.{GenOver, TrialOver}
 use Rattle.dali_desk.specs.Words.{IsJob}
-use Rattle.dali_desk.proofs.Jobs.{one_number}
+use Rattle.dali_desk.proofs.Jobs.{one_number, one_trial}
 use Rattle.dali_desk.proofs.desk.run.Goals as goal
 
 pub make_journal-requires : goal.make_journal-requires
@@ -28,7 +28,24 @@ returns-in-Err-clause-generates g c n is = absurd (c.in-Err.ensures.usage (Gen n
 pub returns-in-Err-clause-raises : goal.returns-in-Err-clause-raises
 returns-in-Err-clause-raises g c is = absurd (c.in-Err.ensures.usage Raise is)
 
+pub returns-in-Err-clause-gate : goal.returns-in-Err-clause-gate
+returns-in-Err-clause-gate g c is = absurd (c.in-Err.ensures.usage Gate is)
+
 pub returns-in-Ok-Gen-clause-generates : goal.returns-in-Ok-Gen-clause-generates
 returns-in-Ok-Gen-clause-generates g c n job =
     let own : IsJob c.args.words.now (Gen c.in-Ok-Gen.n) = subst (IsJob c.args.words.now) c.in-Ok-Gen.field-0-is c.in-Ok-Gen.ensures.ok in
     (refl, subst (λ k. GenOver k g.T.Site.tells (g.T.Site.sight c.args.site.now) (g.T.Site.sight c.run_gen.new.site) c.run_gen.result) (one_number c.args.words.now c.in-Ok-Gen.n n own job) c.run_gen.ensures)
+
+pub returns-in-Err-clause-tries : goal.returns-in-Err-clause-tries
+returns-in-Err-clause-tries g c n is = absurd (c.in-Err.ensures.usage (Trial n) is)
+
+pub returns-in-Err-clause-ships : goal.returns-in-Err-clause-ships
+returns-in-Err-clause-ships g c is = absurd (c.in-Err.ensures.usage Ship is)
+
+pub returns-in-Err-clause-follows : goal.returns-in-Err-clause-follows
+returns-in-Err-clause-follows g c is = absurd (c.in-Err.ensures.usage Follow is)
+
+pub returns-in-Ok-Trial-clause-tries : goal.returns-in-Ok-Trial-clause-tries
+returns-in-Ok-Trial-clause-tries g c n job =
+    let own : IsJob c.args.words.now (Trial c.in-Ok-Trial.n) = subst (IsJob c.args.words.now) c.in-Ok-Trial.field-0-is c.in-Ok-Trial.ensures.ok in
+    (refl, subst (λ k. TrialOver k g.T.Site.tells (g.T.Site.sight c.args.site.now) (g.T.Site.sight c.run_trial.new.site) c.run_trial.result) (one_trial c.args.words.now c.in-Ok-Trial.n n own job) c.run_trial.ensures)
