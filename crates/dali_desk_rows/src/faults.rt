@@ -1,11 +1,18 @@
 ghost use Rattle.std.specs.Prelude.{false, []};
 
-use crate::stage::{day, day_over};
+use crate::stage::{THREE_LINES, new_day, source_of};
+use dali_base::{OutOfMemory, Text};
 use dali_desk::Status;
 use dali_outside::{Failed, Fault, Source};
+use std::alloc::Global;
 use std::test::Fail;
 
-const THREE_LINES: &[u8] = b"080000,PART,A\n080000,PART,B\n080001,ISSUE,A,MXN,100\n";
+/// How the day of three lines ends whose takes give 20 bytes and of which this one fails, and what it prints.
+fn take_failed(alloc: Global, call: u64) -> Result<(Status, Text), OutOfMemory> {
+    let fault = Fault { call, went: 0 };
+    let mut source = source_of(alloc, THREE_LINES, 20, Some(fault))?;
+    new_day(alloc, &mut source, 4096)
+}
 
 /// A take that fails leaves the commands done that an LF had ended before.
 #[test]
@@ -17,8 +24,7 @@ fn take_fails(rt: HostRuntime) -> Result<(), Fail> {
         (4, b"1,OK\n2,OK\n3,OK\n"),
     ];
     for (call, replies) in cases {
-        let fault = Fault { call, went: 0 };
-        let (status, printed) = day(rt.alloc(), THREE_LINES, 20, Some(fault))?;
+        let (status, printed) = take_failed(rt.alloc(), call)?;
         assert_eq!(rt; status, Status::ReadFault);
         assert_eq!(rt; printed.bytes(), replies);
     }
@@ -52,7 +58,7 @@ impl Source for Endless {
 #[test]
 fn long_file(rt: HostRuntime) -> Result<(), Fail> {
     let mut source = Endless { begun: false };
-    let (status, printed) = day_over(rt.alloc(), &mut source)?;
+    let (status, printed) = new_day(rt.alloc(), &mut source, 4096)?;
     assert_eq!(rt; status, Status::LongFile);
     assert_eq!(rt; printed.bytes(), b"1,OK\n".as_slice());
     Ok(())
