@@ -26,6 +26,8 @@ quick:
 outside: build
 	tests/outside/run
 	tests/outside/killed
+	tests/outside/streams
+	tests/outside/memory
 
 # A million changed and made-up blocks, given to the built program.
 blocks: build
@@ -39,13 +41,16 @@ edits:
 try:
 	tools/try $(DAY)
 
-# Times the proved program, the journal, the checker, the search and `check`.
+# Times the proved program, the gateway, the journal, the checker, the search, `check`, the words beside a day, and `ship` into `follow`.
 bench: build
 	bench/day/run
+	bench/gate/run
 	bench/journal/run
 	bench/checker/run
 	bench/search/run
 	bench/check/run
+	bench/words/run
+	bench/ship/run
 
 # Runs each example and compares its replies.
 examples:

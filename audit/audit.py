@@ -1,7 +1,8 @@
 #!/usr/bin/env python3
 """Judges the program from outside: audit/audit.py [DAYS [BROKEN]]. It runs DAYS random days (60) and some generated ones, judges
 all that they print by audit/check_day.py, and every block both by the program's `check` and by audit/check_block.py. Then it breaks
-BROKEN blocks (1,000) and judges these by both. It says where the two differ, and ends with 1 if they ever do."""
+BROKEN blocks (1,000) and judges these by both. Last it deals the random days out to inboxes, has `gate` take them by turns, and
+judges what is printed as the day of their merge by audit/merge.py. It says where the two differ, and ends with 1 if they ever do."""
 
 import random
 import re
@@ -14,6 +15,7 @@ from pathlib import Path
 import check_block
 import check_day
 import days
+import merge
 
 HERE = Path(__file__).resolve().parent
 
@@ -138,6 +140,46 @@ def compare(what, blocks):
     return differ
 
 
+def gateway(dice, day):
+    """The lines of a day in some inboxes, with turns that take them in about their order; now and then bytes that are no such input."""
+    inboxes, turns = [b""] * dice.randint(1, 16), []
+    for line in day.splitlines(keepends=True):
+        turn = dice.randrange(len(inboxes))
+        inboxes[turn] += dice.choice([b"", b"", b"# 080000,PART,NONE\n", b"\r\n"]) + line
+        turns += [turn] * dice.choice([1, 1, 1, 1, 1, 1, 1, 2])
+    text = b"GATE,%d\n" % len(inboxes)
+    text += b"".join(b"INBOX,%d\n%s\n" % (len(inbox), inbox) for inbox in inboxes)
+    text += b"TURNS,%d\n%s\n" % (len(turns), bytes(ord("A") + turn for turn in turns))
+    if dice.random() < 0.2:
+        at = dice.randrange(len(text))
+        text = text[:at] + dice.choice([b"", b"0", b"\n"]) + text[at + 1:]
+    return text
+
+
+def judge_gates(files):
+    """How often what `gate` prints isn't what the day of the merge must; nothing is printed where there is none."""
+    dice = random.Random(len(files))
+    inputs = {name: gateway(dice, day) for name, day in files.items()}
+    said, wrong, none = each(inputs, "gate"), 0, 0
+    for name, text in inputs.items():
+        replies = said.get(name, b"")
+        try:
+            day = merge.merge(*merge.read(text))
+        except ValueError:
+            none += 1
+            if replies:
+                wrong += 1
+                print(f"gate {name}: replies to what is no gateway input")
+            continue
+        try:
+            check_day.judge(day, replies)
+        except check_day.Wrong as error:
+            wrong += 1
+            print(f"gate {name}: {error}")
+    print(f"{len(inputs)} days through a gateway, {none} of them none: {wrong} with a reply that isn't the definition's")
+    return wrong
+
+
 def main(random_days=60, breaks=1000):
     files = {f"generated{n:02}": days.generated(n).encode() for n in (1, 2, 3, 5, 8, 12, 20)}
     files.update({f"random{n:03}": days.random_day(n).encode() for n in range(int(random_days))})
@@ -157,6 +199,7 @@ def main(random_days=60, breaks=1000):
     wrong += compare("blocks of the second edition", seconds)
     small += [block for block in seconds.values() if len(block) < 5000]
     wrong += compare("broken blocks", {f"broken{i:04}": broken(dice, dice.choice(small)) for i in range(int(breaks))})
+    wrong += judge_gates({name: day for name, day in files.items() if name.startswith("random")})
     return 1 if wrong else 0
 
 

@@ -3,10 +3,10 @@ _dali() {
   local word=${COMP_WORDS[COMP_CWORD]}
   COMPREPLY=()
   if [ "$COMP_CWORD" -eq 1 ]; then
-    mapfile -t COMPREPLY < <(compgen -W 'init day check export gen raise' -- "$word")
+    mapfile -t COMPREPLY < <(compgen -W 'init day check export gen trial raise gate ship follow' -- "$word")
   elif [ "$COMP_CWORD" -eq 2 ]; then
     case ${COMP_WORDS[1]} in
-      init | day | export | raise)
+      init | day | export | raise | gate | ship | follow)
         mapfile -t COMPREPLY < <(compgen -f -- "$word")
         compopt -o filenames 2> /dev/null
         ;;
