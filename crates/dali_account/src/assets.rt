@@ -4,7 +4,8 @@ ghost use Rattle.std.specs.Option.{option_map};
 ghost use Rattle.dali_account.specs.AssetList.{listing_of, prices, total_at};
 ghost use Rattle.dali_account.specs.Book.{same_name, cash, price_of, has_asset};
 
-use dali_base::{Name, OutOfMemory, read_name};
+use crate::cash::is_cash;
+use dali_base::{Name, OutOfMemory};
 use indexmap::IndexMap;
 use std::alloc::Global;
 use std::marker::Model;
@@ -143,18 +144,4 @@ impl Assets {
             Err(_) => Err(OutOfMemory),
         }
     }
-}
-
-/// The asset of cash.
-pub fn cash_name() -> Name
-    ensures { result ≡ cash }
-{
-    read_name(b"MXN".as_slice()).unwrap()
-}
-
-/// Whether the asset is cash.
-fn is_cash(asset: Name) -> bool
-    ensures { result ≡ same_name asset cash }
-{
-    asset.bytes() == b"MXN".as_slice()
 }

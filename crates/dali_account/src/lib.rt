@@ -7,6 +7,7 @@
 
 mod assets;
 mod book;
+mod cash;
 mod holdings;
 pub mod limits;
 mod net;
@@ -14,6 +15,7 @@ mod pairs;
 mod refusal;
 
 pub use book::Book;
+pub use cash::{cash_name, is_cash};
 pub use net::{Move, Net};
 pub use pairs::{Pair, Pairs};
 pub use refusal::BookNo;

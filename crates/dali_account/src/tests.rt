@@ -1,4 +1,4 @@
-use crate::{Book, BookNo, Move, Net, Pair, Pairs};
+use crate::{Book, BookNo, Move, Net, Pair, Pairs, cash_name};
 use dali_base::{Name, Text, read_name};
 use std::alloc::Global;
 use std::test::Fail;
@@ -8,6 +8,10 @@ const THOUSANDTH: u64 = 1_000_000_000_000_000;
 
 fn name(bytes: &[u8]) -> Result<Name, Fail> {
     Ok(read_name(bytes).ok_or("no name")?)
+}
+
+fn bank() -> Name {
+    read_name(b"BANK".as_slice()).unwrap()
 }
 
 fn numbered(alloc: Global, letter: u8, n: u64) -> Result<Name, Fail> {
@@ -43,7 +47,7 @@ fn total_limit(rt: HostRuntime) -> Result<(), Fail> {
     let mut book = Book::new(rt.alloc());
     add_accounts(rt.alloc(), &mut book, 1)?;
     let bank = name(b"A0".as_slice())?;
-    let cash = name(b"MXN".as_slice())?;
+    let cash = cash_name();
     issue_times(&mut book, bank, cash, 1000)?;
     assert_eq!(rt; book.total(cash), 1_000_000_000_000_000_000);
     assert_eq!(rt; issue_times(&mut book, bank, cash, 1), Err(BookNo::Total));
@@ -76,10 +80,10 @@ fn full_codes(rt: HostRuntime) -> Result<(), Fail> {
 
 /// A book in which BANK has these centavos.
 fn book_with(alloc: Global, centavos: u64) -> Result<Book, Fail> {
-    let bank = name(b"BANK".as_slice())?;
+    let bank = bank();
     let mut book = Book::new(alloc);
     book.add_account(bank)?;
-    book.issue(bank, name(b"MXN".as_slice())?, centavos)?;
+    book.issue(bank, cash_name(), centavos)?;
     Ok(book)
 }
 
@@ -87,7 +91,7 @@ fn book_with(alloc: Global, centavos: u64) -> Result<Book, Fail> {
 fn issue_code(book: &mut Book, code: &[u8], units: u64) -> Result<(), Fail> {
     let code = name(code)?;
     book.add_asset(code, 1)?;
-    book.issue(name(b"BANK".as_slice())?, code, units)?;
+    book.issue(bank(), code, units)?;
     Ok(())
 }
 
@@ -99,7 +103,7 @@ fn gold_and_cash(alloc: Global) -> Result<Pairs, Fail> {
         asset: gold,
         balance: 3,
     })?;
-    let cash = name(b"MXN".as_slice())?;
+    let cash = cash_name();
     pairs.push(Pair {
         asset: cash,
         balance: 700,
@@ -110,8 +114,8 @@ fn gold_and_cash(alloc: Global) -> Result<Pairs, Fail> {
 #[test]
 fn earmark_takes_from_the_balance(rt: HostRuntime) -> Result<(), Fail> {
     let mut book = book_with(rt.alloc(), 700)?;
-    let bank = name(b"BANK".as_slice())?;
-    let cash = name(b"MXN".as_slice())?;
+    let bank = bank();
+    let cash = cash_name();
     assert_eq!(rt; book.earmark(bank, cash, 200), Ok(()));
     assert_eq!(rt; book.earmarked(bank, cash), 200);
     Ok(())
@@ -120,8 +124,8 @@ fn earmark_takes_from_the_balance(rt: HostRuntime) -> Result<(), Fail> {
 #[test]
 fn release_gives_back(rt: HostRuntime) -> Result<(), Fail> {
     let mut book = book_with(rt.alloc(), 700)?;
-    let bank = name(b"BANK".as_slice())?;
-    let cash = name(b"MXN".as_slice())?;
+    let bank = bank();
+    let cash = cash_name();
     book.earmark(bank, cash, 200)?;
     assert_eq!(rt; book.release(bank, cash, 50), Ok(()));
     assert_eq!(rt; book.balance(bank, cash), 550);
@@ -138,7 +142,7 @@ fn room_is_there(rt: HostRuntime) -> Result<(), Fail> {
 #[test]
 fn names_are_readied(rt: HostRuntime) -> Result<(), Fail> {
     let mut book = Book::new(rt.alloc());
-    let bank = name(b"BANK".as_slice())?;
+    let bank = bank();
     assert_eq!(rt; book.ready_account(bank), Ok(()));
     assert_eq!(rt; book.ready_asset(bank), Ok(()));
     Ok(())
@@ -146,7 +150,7 @@ fn names_are_readied(rt: HostRuntime) -> Result<(), Fail> {
 
 #[test]
 fn net_takes_a_move(rt: HostRuntime) -> Result<(), Fail> {
-    let account = name(b"BANK".as_slice())?;
+    let account = bank();
     let mut net = Net::new(rt.alloc());
     let item = Move {
         account,
@@ -162,7 +166,7 @@ fn net_takes_a_move(rt: HostRuntime) -> Result<(), Fail> {
 fn pairs_stand_in_byte_order(rt: HostRuntime) -> Result<(), Fail> {
     let mut book = book_with(rt.alloc(), 700)?;
     issue_code(&mut book, b"GOLD".as_slice(), 3)?;
-    let pairs = book.pairs(rt.alloc(), name(b"BANK".as_slice())?)?;
+    let pairs = book.pairs(rt.alloc(), bank())?;
     assert_eq!(rt; pairs, gold_and_cash(rt.alloc())?);
     Ok(())
 }
@@ -170,8 +174,8 @@ fn pairs_stand_in_byte_order(rt: HostRuntime) -> Result<(), Fail> {
 #[test]
 fn a_drawn_balance_is_no_pair(rt: HostRuntime) -> Result<(), Fail> {
     let mut book = book_with(rt.alloc(), 700)?;
-    let bank = name(b"BANK".as_slice())?;
-    book.draw(bank, name(b"MXN".as_slice())?, 700)?;
+    let bank = bank();
+    book.draw(bank, cash_name(), 700)?;
     assert_eq!(rt; book.pairs(rt.alloc(), bank)?, Pairs::new(rt.alloc()));
     Ok(())
 }

@@ -5,7 +5,6 @@
 //! command needs; [`State::commit`] then takes none and can't fail. Together they are the step of `specs/Step.antt`.
 #![tactic(auto)]
 
-mod cash;
 mod judged;
 mod outcome;
 mod ready;

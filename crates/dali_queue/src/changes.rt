@@ -1,7 +1,6 @@
 ghost use Rattle.std.specs.Prelude.{◌≡◌, ◌≢◌, ◌+◌, ◌≤◌, ℤ, pos, neg_ℤ, ◌+ℤ◌, List, ℕ, [], ◌∷◌, ◌++◌, IfOk, OnOk};
 ghost use Rattle.dali_base.specs.Limits.{most_quantity};
 ghost use Rattle.dali_account.specs.Units.{PairKey};
-ghost use Rattle.dali_account.specs.Book.{cash};
 ghost use Rattle.dali_account.specs.Net.{IsAfter};
 ghost use Rattle.dali_problem.specs.Limits.{Within};
 ghost use Rattle.dali_queue.specs.Instruction.{IsInstruction, at_pair, moved, effect};
@@ -9,8 +8,8 @@ ghost use Rattle.dali_queue.specs.NetOf.{IsNetOf};
 ghost use Rattle.dali_queue.specs.Changed.{ROOM, HALF, change_of, AreWithin, move_of, moves_of};
 
 use crate::instruction::Instruction;
-use dali_account::{Move, Net};
-use dali_base::{Name, OutOfMemory, read_name};
+use dali_account::{Move, Net, cash_name};
+use dali_base::{Name, OutOfMemory};
 use std::alloc::Global;
 use std::collections::BTreeMap;
 
@@ -120,10 +119,4 @@ fn push_change(net: &mut Net, pair: &(Name, Name), delta: &i64) -> Result<(), Ou
         })?;
     }
     Ok(())
-}
-
-fn cash_name() -> Name
-    ensures { result ≡ cash }
-{
-    read_name(b"MXN".as_slice()).unwrap()
 }

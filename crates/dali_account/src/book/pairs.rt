@@ -6,8 +6,8 @@ ghost use Rattle.dali_account.specs.Book.{same_name, has_account, balance_of};
 ghost use Rattle.dali_account.specs.Pairs.{pairs_of};
 ghost use Rattle.dali_account.specs.Units.{HasNoZero, some_units};
 
-use crate::assets::cash_name;
 use crate::book::Book;
+use crate::cash::cash_name;
 use crate::pairs::{Pair, Pairs};
 use dali_base::{Name, OutOfMemory, Seq};
 use std::alloc::Global;

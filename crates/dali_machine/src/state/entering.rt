@@ -6,7 +6,7 @@ ghost use Rattle.dali_machine.specs.Refusals.{is_entry};
 ghost use Rattle.dali_machine.specs.Ready.{MayTake, MayEnter};
 
 use super::State;
-use crate::cash::cash_name;
+use dali_account::cash_name;
 use dali_base::{Kind, Name};
 use dali_line::Verb;
 use dali_queue::Instruction;

@@ -3,9 +3,9 @@ ghost use Rattle.dali_line.specs.declared.command.Verb.{Verb as Wish};
 ghost use Rattle.dali_machine.specs.Kept.{IsMachine};
 ghost use Rattle.dali_machine.specs.Refusals.{is_entry, refusal, worth, unknown_parties, place_refusal};
 
-use crate::cash::is_cash;
 use crate::outcome::Code;
 use crate::state::State;
+use dali_account::is_cash;
 use dali_base::limits::MOST_QUANTITY;
 use dali_base::{Kind, Moment, Name};
 use dali_line::Verb;

@@ -4,9 +4,9 @@ ghost use Rattle.dali_queue.specs.Instruction.{IsInstruction};
 ghost use Rattle.dali_machine.specs.Refusals.{refusal, is_short};
 ghost use Rattle.dali_queue.specs.Queue.{item_of};
 
-use crate::cash::cash_name;
 use crate::outcome::Code;
 use crate::state::State;
+use dali_account::cash_name;
 use dali_base::{Moment, Name};
 use dali_queue::Instruction;
 use dali_queue::limits::MOST_LINKED;

@@ -6,13 +6,15 @@ use dali_base::{Name, read_name};
 /// The asset of cash.
 const CASH: &[u8] = b"MXN";
 
-pub(crate) fn cash_name() -> Name
+/// The asset of cash.
+pub fn cash_name() -> Name
     ensures { result ≡ cash }
 {
     read_name(CASH).unwrap()
 }
 
-pub(crate) fn is_cash(asset: Name) -> bool
+/// Whether the asset is cash.
+pub fn is_cash(asset: Name) -> bool
     ensures { result ≡ same_name asset cash }
 {
     asset.bytes() == CASH
