@@ -73,6 +73,6 @@ fn whole<T: Site>(status: Status, site: &T) -> Status
     ensures same { result ≡ status }
     ensures whole { IsTrue T.tells → TellsAll (T.sight site.now) }
 {
-    site.size();
+    let _size = site.size();
     status
 }
