@@ -2,6 +2,7 @@ use Rattle.std.specs.Prelude.{◌≡◌, ◌≢◌, ◌⊎◌, ℕ, ◌+◌, ◌
 use Rattle.dali_entry.specs.EntryRecord.{EntryRecord}
 use Rattle.dali_journal.specs.Appends.{AtRest, IsFirm}
 use Rattle.dali_journal.specs.Frames.{frames_length}
+use Rattle.dali_journal.specs.Limits.{most_payloads}
 use Rattle.dali_journal.specs.declared.refusal.Damage.{Damage}
 use Rattle.dali_line.specs.Commands.{commands}
 use Rattle.dali_machine.specs.History.{AreNext}
@@ -137,11 +138,11 @@ Because s t old before after found all done edition (JournalFull need left) = (d
 Because s t old before after found all done edition OutOfMemory = Unit {0}
 
 -- So few syncs were made for the entries behind those found: one at the opening, and two for each append, of which there is
--- one for 64 entries, two for a cycle, and one more.
+-- one for each whole group, two for a cycle, and one more.
 pub record FewSyncs (before : Sight) (found all : List EntryRecord) (after : Sight) : Type 0 where
   pub added : List EntryRecord
   pub parts : all ≡ found ++ added
-  pub syncs : after.syncs ≤ before.syncs + (1 + 2 * (length added / 64 + 2 * cycles_in added + 1))
+  pub syncs : after.syncs ≤ before.syncs + (1 + 2 * (length added / most_payloads + 2 * cycles_in added + 1))
 
 -- A history was found. All entries are those found and those that the device has behind them at the end, or may have after
 -- a disk fault; those done are the ones whose lines were taken from the file.

@@ -59,12 +59,12 @@ cycle_count None = 0
 abbrev pub cycles_in : List EntryRecord → ℕ
 cycles_in entries = sum_by (λ (e : EntryRecord). cycle_count e.choice) entries
 
--- How many syncs were made for the added entries: one at the opening, and two for each append. An append is of 64 entries,
--- or is one of the two of a cycle, or one of so many more.
+-- How many syncs were made for the added entries: one at the opening, and two for each append. An append is of as many entries
+-- as a group has at most, or is one of the two of a cycle, or one of so many more.
 pub record Spends (more : ℕ) (before : Sight) (added : List EntryRecord) (sight : Sight) : Type 0 where
   pub full : ℕ
   pub others : ℕ
-  pub each : 64 * full ≤ length added
+  pub each : most_payloads * full ≤ length added
   pub few : others ≤ 2 * cycles_in added + more
   pub syncs : sight.syncs ≤ before.syncs + (1 + 2 * (full + others))
 

@@ -16,9 +16,13 @@ impl Register {
     /// nothing is held back, nothing is written or printed.
     pub fn flush<T: Site>(&mut self, site: &mut T) -> Result<(), RegisterNo>
         requires { IsAtSite self.old (T.sight site.old) }
+
+        // what is kept and printed, and where the journal then stands
         ensures flushed { (before : Sight) (found added held : List EntryRecord) → Stands T.tells before found added held self.old (T.sight site.old) →
             Flushed T.tells before found added held self.new (T.sight site.old) (T.sight site.new) result }
         ensures at_site { OnOk result (IsAtSite self.new (T.sight site.new)) }
+
+        // what stays, and how few syncs it takes
         ensures goes { Goes (T.sight site.old) (T.sight site.new) }
         ensures state { self.new.state ≡ self.old.state }
         ensures edition { self.new.journal.edition ≡ self.old.journal.edition }

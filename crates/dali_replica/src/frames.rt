@@ -57,14 +57,20 @@ impl Frames {
     /// `LongFile` comes exactly where no frame ends within the limit of bytes and one byte more was taken. `OutOfMemory` comes
     /// only where room was wanted for bytes that were taken, of a record whose length is within the limit.
     pub fn next<S: Source>(&mut self, source: &mut S) -> Result<Option<Shipped>, FrameNo>
+
+        // the four answers, and nothing more behind the last
         ensures over { self.old.over ≡ true → (result ≡ Ok None) × (self.new ≡ self.old) × (source.new ≡ source.old) }
         ensures some { self.old.over ≡ false → IfOk result (λ o. IfSome o (λ f. Gives S.tells f self.old self.new (S.feed source.old) (S.feed source.new))) }
         ensures none { self.old.over ≡ false → IfOk result (λ o. IfNone o (Ends S.tells self.old self.new (S.feed source.old) (S.feed source.new))) }
         ensures stops { IfErr result (Stops S.tells self.old.place (reached self.old (S.feed source.old)) (reached self.new (S.feed source.new))) }
+
+        // a fault comes only where its count rose
         ensures quiet { result ≢ Err FrameNo.ReadFault → (S.feed source.new).faults ≡ (S.feed source.old).faults }
         ensures failed { result ≡ Err FrameNo.ReadFault → Rose (S.feed source.old).faults (S.feed source.new).faults }
         ensures ended { OnErr result (self.new.over ≡ true) }
         ensures faults { (S.feed source.old).faults ≤ (S.feed source.new).faults }
+
+        // where it stands, and that a stream has one list of frames
         ensures counted { self.new.over ≡ false → self.new.place + length self.new.pending ≡ self.new.taken }
         ensures one_stream { (stream : List ℕ) (frames others : List ShippedRecord) → HasFrames stream frames → HasFrames stream others → frames ≡ others }
     {
