@@ -1,24 +1,23 @@
-use Rattle.std.proofs.Common.{◌≡◌, ◌∙◌, ℕ, zero, suc, ◌+◌, ◌≤◌, ◌⊎◌, inl, inr, Bool, true, List, [], ◌∷◌, ◌++◌, length, take, refl, sym, ap, subst, arith, append_assoc, append-nil}
+use Rattle.std.proofs.Common.{◌≡◌, ℕ, zero, suc, inl, inr, Bool, List, [], take, refl, sym, subst}
 use Rattle.std.specs.Prelude.{IsTrue}
 use Rattle.dali_entry.specs.EntryRecord.{EntryRecord}
 use Rattle.dali_line.specs.Commands.{commands}
 use Rattle.dali_machine.specs.History.{AreNext, IsLegal}
 use Rattle.dali_machine.specs.Machine.{opening}
 use Rattle.dali_outside.specs.Outside.{Feed, Sight, TellsAll, now}
-use Rattle.dali_outside.specs.Stops.{MayLeave, Keeps, LeavesOnly}
+use Rattle.dali_outside.specs.Stops.{MayLeave}
 use Rattle.dali_outside.proofs.Images.{own_left}
 use Rattle.dali_outside.proofs.Moments.{leaves_weaker, keeps_now}
-use Rattle.dali_recover.specs.Reported.{AreReported}
-use Rattle.dali_recover.specs.Spells.{Spells, SpellsLegal}
-use Rattle.dali_recover.proofs.Histories.{reported_first}
+use Rattle.dali_recover.specs.Spells.{Spells}
 use Rattle.dali_recover.proofs.Spelling.{one_history}
+use Rattle.dali_marks.proofs.Histories.{legal_reported}
 use Rattle.dali_register.specs.Front.{IsFront}
 use Rattle.dali_register.specs.Leaving.{LeavesDay, SpellsFront}
 use Rattle.dali_register.specs.TextOf.{text_of, lines_of}
 use Rattle.dali_register.proofs.Fronts.{whole_front, front_within}
 use Rattle.dali_register.proofs.Texts.{next_first}
-use Rattle.dali_day.specs.CrashPrefix.{SpellsFirst, EachSpellsFirst, BeginsAtStart, KeepsPrefix, CrashPrefix}
-use Rattle.dali_day.specs.DayRun.{HasDone, Unopened, Opened, DayRun}
+use Rattle.dali_day.specs.CrashPrefix.{SpellsFirst, EachSpellsFirst, KeepsPrefix, CrashPrefix}
+use Rattle.dali_day.specs.DayRun.{Opened, DayRun}
 use Rattle.dali_day.specs.declared.end.DayEnd.{DayEnd}
 use Rattle.dali_day.proofs.Lines.{lines_front}
 
@@ -27,7 +26,7 @@ take_nothing zero = refl
 take_nothing (suc n) = refl
 
 -- what a stop before the first change leaves
-kept_start : (file : List ℕ) (before : Sight) → EachSpellsFirst file before → (image text : List ℕ) → MayLeave (now before) image text → KeepsPrefix file before image text
+pub kept_start : (file : List ℕ) (before : Sight) → EachSpellsFirst file before → (image text : List ℕ) → MayLeave (now before) image text → KeepsPrefix file before image text
 kept_start file before premise image text left =
     let is : SpellsFirst file image = premise image text left in
     record {
@@ -38,14 +37,11 @@ kept_start file before premise image text left =
       printed = left.printed;
       front = subst (λ xs. IsFront xs (text_of is.history)) (sym (take_nothing left.n)) (record { rest = text_of is.history; parts = refl });
       begins = record { image = image; text = text; left = left; start = is.history; spells = is.spells.spells; begins = whole_front is.history };
-      marks = inl left;
+      marks = legal_reported is.history is.spells.legal;
     }
 
 legal_front : (front whole : List EntryRecord) → IsFront front whole → AreNext opening 0 whole → IsLegal front
 legal_front front whole is legal = record { entries = next_first opening 0 front is.rest (subst (AreNext opening 0) is.parts legal) }
-
-reported_front : (front whole : List EntryRecord) → IsFront front whole → AreReported opening whole → AreReported opening front
-reported_front front whole is are = reported_first opening front is.rest (subst (AreReported opening) is.parts are)
 
 -- the found history is one of the file's first commands
 pub found_first : (file : List ℕ) (before : Sight) (found : List EntryRecord) → TellsAll before → EachSpellsFirst file before → Spells before.bytes found → IsFront (lines_of found) (commands file)
@@ -66,14 +62,17 @@ module _ (s t : Bool) (old new : Feed) (before after : Sight) (end : DayEnd) (s_
   kept_front : (image text : List ℕ) → SpellsFront o.found o.all before.printed image text → KeepsPrefix old.left before image text
   kept_front image text is = record {
     history = is.history;
-    spells = record { spells = is.spells; legal = legal_front is.history o.all is.within o.entries.legal };
+    spells = record { spells = is.spells; legal = legal };
     first = front_within (lines_of is.history) (lines_of o.all) (commands old.left) (lines_front is.history o.all is.within) all_first;
     shown = is.shown;
     printed = is.printed;
     front = is.front;
     begins = record { image = before.bytes; text = before.printed; left = own_left before tells; start = o.found; spells = o.spelled t_tells; begins = is.begins };
-    marks = inr (reported_front is.history o.all is.within o.entries.reported);
+    marks = legal_reported is.history legal;
   }
+    where
+      legal : IsLegal is.history
+      legal = legal_front is.history o.all is.within o.entries.legal
 
   opened_prefix : CrashPrefix old.left before after
   opened_prefix = leaves_weaker (LeavesDay before o.found o.all) (KeepsPrefix old.left before) before after

@@ -1,4 +1,4 @@
-use Rattle.std.specs.Prelude.{◌≡◌, ◌⊎◌, ℕ, List, ◌++◌}
+use Rattle.std.specs.Prelude.{◌≡◌, ℕ, List, ◌++◌}
 use Rattle.dali_entry.specs.EntryRecord.{EntryRecord}
 use Rattle.dali_line.specs.Commands.{commands}
 use Rattle.dali_machine.specs.Machine.{opening}
@@ -29,8 +29,7 @@ pub record BeginsAtStart (before : Sight) (history : List EntryRecord) : Type 0 
   pub begins : IsFront start history
 
 -- The law of a stop: the image spells a legal history, whose lines are the first commands of the file; the text printed
--- since the start is a front of its text; it begins with a history of the start; and what is answered to it is true, where
--- it isn't one that stood at the start.
+-- since the start is a front of its text; it begins with a history of the start; and what is answered to it is true.
 pub record KeepsPrefix (file : List ℕ) (before : Sight) (image text : List ℕ) : Type 0 where
   pub history : List EntryRecord
   pub spells : SpellsLegal image history
@@ -39,7 +38,7 @@ pub record KeepsPrefix (file : List ℕ) (before : Sight) (image text : List ℕ
   pub printed : text ≡ before.printed ++ shown
   pub front : IsFront shown (text_of history)
   pub begins : BeginsAtStart before history
-  pub marks : MayLeave (now before) image text ⊎ AreReported opening history
+  pub marks : AreReported opening history
 
 -- at every moment since the start
 abbrev pub CrashPrefix : List ℕ → Sight → Sight → Type 0

@@ -1,20 +1,19 @@
-use Rattle.std.proofs.Common.{◌≡◌, ◌∙◌, ℕ, inl, Bool, true, List, [], ◌++◌, take, length, refl, sym, ap, subst}
+use Rattle.std.proofs.Common.{◌≡◌, ◌∙◌, ℕ, Bool, true, List, ◌++◌, take, length, refl, ap}
 use Rattle.std.proofs.Math.Seq.{take-append_seam}
 use Rattle.dali_line.specs.Commands.{commands}
-use Rattle.dali_outside.specs.Outside.{Sight, now}
-use Rattle.dali_outside.specs.Stops.{MayLeave, LeavesOnly}
+use Rattle.dali_outside.specs.Outside.{Sight}
+use Rattle.dali_outside.specs.Stops.{LeavesOnly}
 use Rattle.dali_outside.proofs.Moments.{leaves_start, leaves_weaker}
 use Rattle.dali_register.specs.Front.{IsFront}
-use Rattle.dali_register.specs.TextOf.{text_of, lines_of}
-use Rattle.dali_register.proofs.Fronts.{whole_front}
+use Rattle.dali_register.specs.TextOf.{lines_of}
 use Rattle.dali_gateway.specs.Merge.{merge}
 use Rattle.dali_gateway.specs.Order.{givers, share, KeepsOrder}
 use Rattle.dali_gateway.proofs.Merging.{keeps_order}
-use Rattle.dali_day.specs.CrashPrefix.{SpellsFirst, EachSpellsFirst, KeepsPrefix}
+use Rattle.dali_day.specs.CrashPrefix.{EachSpellsFirst, KeepsPrefix}
+use Rattle.dali_day.proofs.Prefixes.{kept_start}
 use Rattle.dali_desk.specs.DayOver.{DayOver}
 use Rattle.dali_desk.specs.GateOver.{SharesAreFirst, KeepsInboxes, DayOverMerge, unfailing}
 use Rattle.dali_desk.specs.declared.status.Status.{Status}
-use Rattle.dali_desk.proofs.Stopping.{take_none}
 
 -- of the first lines of a merge, those at the positions of an inbox are its first commands
 shares_first : (inboxes : List (List ℕ)) (turns : List ℕ) (lines : List (List ℕ)) → IsFront lines (commands (merge inboxes turns)) → SharesAreFirst inboxes turns lines
@@ -32,20 +31,6 @@ inboxes_kept inboxes turns before after =
     (λ image text is. record { prefix = is; shares = shares_first inboxes turns (lines_of is.history) is.first })
 
 -- what a stop leaves where nothing was done
-kept_start : (file : List ℕ) (before : Sight) → EachSpellsFirst file before → (image text : List ℕ) → MayLeave (now before) image text → KeepsPrefix file before image text
-kept_start file before premise image text left =
-    let is : SpellsFirst file image = premise image text left in
-    record {
-      history = is.history;
-      spells = is.spells;
-      first = is.first;
-      shown = take {A = ℕ} left.n [];
-      printed = left.printed;
-      front = subst (λ xs. IsFront xs (text_of is.history)) (sym (take_none left.n)) (record { rest = text_of is.history; parts = refl });
-      begins = record { image = image; text = text; left = left; start = is.history; spells = is.spells.spells; begins = whole_front is.history };
-      marks = inl left;
-    }
-
 pub nothing_done : (inboxes : List (List ℕ)) (turns : List ℕ) (before : Sight) → EachSpellsFirst (merge inboxes turns) before → LeavesOnly (KeepsInboxes inboxes turns before) before before
 nothing_done inboxes turns before premise =
     inboxes_kept inboxes turns before before (leaves_start (KeepsPrefix (merge inboxes turns) before) before (kept_start (merge inboxes turns) before premise))

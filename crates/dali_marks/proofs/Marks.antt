@@ -1,4 +1,4 @@
-use Rattle.std.proofs.Common.{◌≡◌, ℕ, ◌<◌, ◌≤◌, Bool, true, false, cond, List, length, eqb, refl, sym, subst, arith}
+use Rattle.std.proofs.Common.{◌≡◌, ℕ, ◌+◌, ◌^◌, ◌<◌, ◌≤◌, Bool, true, false, cond, List, length, eqb, refl, sym, subst, arith}
 use Rattle.std.proofs.lemmas.Bool.Decides.{nat_tests}
 use Rattle.dali_base.specs.Limits.{most_budget}
 use Rattle.dali_problem.specs.Clearing.{Clearing}
@@ -58,6 +58,16 @@ module _ (p : Clearing) (budget : ℕ) (choice : Choice) (own : ChangesOwnLines 
     few = λ e. (is.spent (below (eqb (value_of p choice.places) (bound_of choice.parts)) refl e)).1;
   }
 
+  -- with a budget for every set of places it is OPTIMAL
+  pub optimal_mark : (ids : List (List ℕ)) → 2 ^ length p.items ≤ budget + 1 → (report_on p ids budget choice).mark ≡ Optimal
+  optimal_mark ids enough = by (eqb (value_of p choice.places) (bound_of choice.parts)) refl
+    where
+      by : (b : Bool) → eqb (value_of p choice.places) (bound_of choice.parts) ≡ b → cond b Optimal Unfinished ≡ Optimal
+      by true told = refl
+      by false told =
+          let few : budget + 1 < 2 ^ length p.items = (is.spent (below false told refl)).1 in
+          absurd (omega (arith, few, enough))
+
 -- so is each cycle's report, whatever the state is
 pub true_report : (m : Machine) (t budget : ℕ) (choice : Choice) → budget ≤ most_budget → IsChoiceFor (problem_at m t) budget choice → IsTrueReport (report_of m t budget choice)
 unfolding report_of
@@ -66,3 +76,9 @@ true_report m t budget choice small chosen = record {
   budget = small;
   mark = true_mark (problem_at m t) budget choice (problem_own m.book m.queue t) chosen (ids_at m (places_in m t choice.places));
 }
+
+pub optimal_report : (m : Machine) (t budget : ℕ) (choice : Choice) → IsChoiceFor (problem_at m t) budget choice → 2 ^ length (problem_at m t).items ≤ budget + 1 →
+    (report_of m t budget choice).mark ≡ Optimal
+unfolding report_of
+optimal_report m t budget choice chosen enough =
+    optimal_mark (problem_at m t) budget choice (problem_own m.book m.queue t) chosen (ids_at m (places_in m t choice.places)) enough

@@ -1,5 +1,5 @@
 use Rattle.dali_marks.proofs.Histories.{entries_reported, legal_reported}
-use Rattle.dali_marks.proofs.Marks.{bound_most, true_report}
+use Rattle.dali_marks.proofs.Marks.{bound_most, optimal_report, true_report}
 use Rattle.dali_marks.proofs.laws.marks_are_true.Goals as goal
 
 pub returns-clause-bounds : goal.returns-clause-bounds
@@ -7,6 +7,9 @@ returns-clause-bounds c p budget choice own chosen = bound_most p budget choice 
 
 pub returns-clause-cycles : goal.returns-clause-cycles
 returns-clause-cycles c m t budget choice small chosen = true_report m t budget choice small chosen
+
+pub returns-clause-enough : goal.returns-clause-enough
+returns-clause-enough c m t budget choice chosen enough = optimal_report m t budget choice chosen enough
 
 pub returns-clause-entries : goal.returns-clause-entries
 returns-clause-entries c m last entries are = entries_reported m last entries are
