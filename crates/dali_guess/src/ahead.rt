@@ -1,5 +1,5 @@
 use crate::board::{Board, Item};
-use crate::sketch::Sketch;
+use crate::sketch::{SCALE, Sketch};
 use crate::smooth::Width;
 use dali_base::OutOfMemory;
 
@@ -16,11 +16,17 @@ pub(crate) fn outlook(
     item: usize,
     value: u64,
 ) -> Result<i128, OutOfMemory> {
-    let closed = i128::from(value).saturating_mul(4096).saturating_add(4095);
-    let gap = sketch.total.saturating_sub(closed).max(1);
+    let gap = sketch.total.saturating_sub(most_closed(value)).max(1);
     let inside = drop_at(board, sketch, trial, widths, item, true)?;
     let outside = drop_at(board, sketch, trial, widths, item, false)?;
     Ok(share_of(inside, gap).saturating_mul(share_of(outside, gap)))
+}
+
+/// The greatest Sum whose bound isn't above what the best set is worth.
+fn most_closed(value: u64) -> i128 {
+    let scale = i128::from(SCALE);
+    let next = i128::from(value).saturating_add(1).saturating_mul(scale);
+    next.saturating_sub(1)
 }
 
 /// How many parts of the gap a drop closes, and a few more, so that one side alone counts too.

@@ -6,7 +6,7 @@ use crate::ahead::outlook;
 use crate::board::Board;
 use crate::listing::listed;
 use crate::sketch::Sketch;
-use crate::smooth::{Width, widths};
+use crate::smooth::{WHOLE, Width, widths};
 use dali_base::OutOfMemory;
 use dali_problem::{Partial, Problem};
 use dali_tree::Lam;
@@ -88,9 +88,7 @@ fn stake(value: u64, width: Option<&Width>, reduced: i128) -> i128 {
         Some(width) => width.share(reduced),
         None => 0,
     };
-    let open = share
-        .min(65536i64.saturating_sub(share))
-        .saturating_add(1024);
+    let open = share.min(WHOLE.saturating_sub(share)).saturating_add(1024);
     i128::from(value).saturating_mul(i128::from(open))
 }
 

@@ -5,6 +5,9 @@ use dali_base::{OutOfMemory, Places, Seq};
 use dali_problem::{Effect, Mark, Partial, Problem};
 use std::alloc::Global;
 
+/// What a centavo of value counts for at first, beside the price of what lines lack.
+pub(crate) const WORTH: i64 = 4096;
+
 /// The greatest price of a line, which keeps scores within 128 bits.
 pub(crate) const MOST_PRICE: i64 = 1 << 50;
 
@@ -51,10 +54,11 @@ pub(crate) struct Row {
 }
 
 impl Row {
-    /// What a unit that the line lacks costs at first: the value that a unit of it moves, where a centavo counts 4,096.
+    /// What a unit that the line lacks costs at first: the value that a unit of it moves.
     pub(crate) fn price(&self) -> i64 {
-        let price = u128::from(self.value) * 4096 / u128::from(self.size.saturating_add(1));
-        price.clamp(1, 1 << 50) as i64
+        let moved = u128::from(self.value) * WORTH as u128;
+        let price = moved / u128::from(self.size.saturating_add(1));
+        price.clamp(1, MOST_PRICE as u128) as i64
     }
 
     fn touch(&mut self, item: usize, value: u64, amount: i64) -> Result<(), OutOfMemory> {
@@ -150,14 +154,20 @@ impl Board {
         Ok(flags)
     }
 
-    /// The same for the places of the problem: which of them are flagged items.
+    /// The same for the places of the problem: which of them are chosen, or flagged items.
     pub(crate) fn spread(
         &self,
         alloc: Global,
         problem: &Problem,
+        partial: &Partial,
         flags: &[bool],
-    ) -> Result<Vec<bool>, OutOfMemory> {
-        let mut spread = vec![in alloc; false; problem.items() as usize]?;
+    ) -> Result<Vec<bool>, OutOfMemory>
+        requires { IsOf problem.now partial.now }
+    {
+        let mut spread = Vec::with_capacity(alloc, problem.items() as usize)?;
+        for place in 0..problem.items() {
+            spread.push(partial.mark(place) == Mark::Chosen)?;
+        }
         for (at, item) in self.items.as_slice().iter().enumerate() {
             if let Some(flag) = spread.get_mut(item.place as usize) {
                 *flag = matches!(flags.get(at), Some(true));

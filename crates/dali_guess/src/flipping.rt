@@ -1,11 +1,12 @@
-ghost use Rattle.std.specs.Prelude.{◌<◌, length, IfOk};
+ghost use Rattle.std.specs.Prelude.{IfOk};
 ghost use Rattle.dali_problem.specs.Feasible.{ArePlaces};
 ghost use Rattle.dali_problem.specs.Kept.{IsOf};
 
 use crate::board::Board;
+use crate::listing::places_of;
 use crate::run::Run;
 use dali_base::{OutOfMemory, Places};
-use dali_problem::{Mark, Partial, Problem};
+use dali_problem::{Partial, Problem};
 use std::alloc::Global;
 
 /// A set of places that agrees with a partial choice and may be feasible and worth much: the best that was met in so many
@@ -29,32 +30,6 @@ pub fn flips(
     let mut run = Run::new(alloc, &board, inside)?;
     let items = board.items.len() as u64;
     run.go(&board, flips_each.saturating_mul(items));
-    let taken = board.spread(alloc, problem, run.best.as_slice())?;
-    places_of(alloc, problem, partial, taken.as_slice())
-}
-
-/// The places that are chosen or taken, rising.
-fn places_of(
-    alloc: Global,
-    problem: &Problem,
-    partial: &Partial,
-    taken: &[bool],
-) -> Result<Places, OutOfMemory>
-    requires { IsOf problem.now partial.now }
-    ensures { IfOk result (ArePlaces problem.now) }
-{
-    let mut places = Places::new(alloc);
-    for place in 0..problem.items() {
-        if is_in(partial, taken, place) {
-            places.push(place)?;
-        }
-    }
-    Ok(places)
-}
-
-/// Whether a place is chosen or taken.
-fn is_in(partial: &Partial, taken: &[bool], place: u32) -> bool
-    requires { place < length partial.now.marks }
-{
-    partial.mark(place) == Mark::Chosen || matches!(taken.get(place as usize), Some(true))
+    let taken = board.spread(alloc, problem, partial, run.best.as_slice())?;
+    places_of(alloc, problem, taken.as_slice())
 }

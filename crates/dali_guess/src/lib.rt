@@ -11,6 +11,7 @@ mod aiming;
 mod board;
 mod flipping;
 mod listing;
+mod repairing;
 mod run;
 mod score;
 mod sketch;
@@ -20,4 +21,5 @@ mod state;
 
 pub use aiming::aim;
 pub use flipping::flips;
-pub use smoothing::smoothed;
+pub use repairing::repaired;
+pub use smoothing::{smoothed, smoothed_near};

@@ -1,12 +1,17 @@
 use crate::board::{Board, Row, Touch};
 use crate::score::cost;
 use dali_base::OutOfMemory;
+use dali_base::limits::MOST_MULTIPLIER;
+use dali_lagrange::limits;
 use dali_problem::{Effect, Mark};
 use dali_tree::Lam;
 use std::alloc::Global;
 
 /// The greatest multiplier.
-pub(crate) const MOST: i64 = 1 << 44;
+pub(crate) const MOST: i64 = MOST_MULTIPLIER as i64;
+
+/// What a centavo counts for in a Sum.
+pub(crate) const SCALE: i64 = limits::SCALE as i64;
 
 /// What a line has, and what undecided items may add to it and take from it.
 #[derive(Clone, Copy)]
@@ -73,14 +78,14 @@ impl Sketch {
             stocks: vec![in alloc; Stock::EMPTY; lines]?,
             multipliers: vec![in alloc; 0; lines]?,
             reduced: vec![in alloc; 0; items]?,
-            total: cost(&4096, &0i64.saturating_add_unsigned(board.chosen)),
+            total: cost(&SCALE, &0i64.saturating_add_unsigned(board.chosen)),
             decided: Vec::with_capacity(alloc, items)?,
         };
         for (line, row) in board.rows.as_slice().iter().enumerate() {
             sketch.stock(line, row);
         }
         for (at, item) in board.items.as_slice().iter().enumerate() {
-            sketch.value(at, cost(&4096, &0i64.saturating_add_unsigned(item.value)));
+            sketch.value(at, cost(&SCALE, &0i64.saturating_add_unsigned(item.value)));
         }
         for (line, multiplier) in lam.as_slice() {
             let to = 0i64.saturating_add_unsigned(*multiplier);

@@ -1,11 +1,19 @@
 use crate::board::{Board, Row};
 use crate::score::cost;
-use crate::sketch::{MOST, Sketch};
+use crate::sketch::{MOST, SCALE, Sketch};
 use dali_base::OutOfMemory;
 use std::alloc::Global;
 
-/// Half the width of the numbers on which shares are told.
-const WIDE: i64 = 1 << 20;
+/// The share of an item that is all in.
+pub(crate) const WHOLE: i64 = 1 << 16;
+
+/// Half the width of the numbers on which shares are told, and its bits.
+const WIDE: i64 = 1 << WIDE_BITS;
+
+const WIDE_BITS: u32 = 20;
+
+/// How many of these numbers have one share.
+const STEP: i64 = 2 * WIDE / WHOLE;
 
 /// How a reduced value is brought on to the scale of shares: shifted down, or multiplied.
 #[derive(Clone, Copy)]
@@ -15,27 +23,28 @@ pub(crate) struct Width {
 }
 
 impl Width {
-    /// The width of an item of this value at a level: its value on the scale of 4,096, halved as often as the level says.
+    /// The width of an item of this value at a level: what its value counts for in a Sum, halved as often as the level says.
     pub(crate) fn new(value: u64, level: u32) -> Width {
-        let bits = 64u32.saturating_sub(value.leading_zeros());
-        let size = bits.saturating_add(11).saturating_sub(level);
+        let counted = u128::from(value) * SCALE as u128;
+        let bits = 127u32.saturating_sub(counted.leading_zeros());
+        let size = bits.saturating_sub(level);
         let mut factor: i64 = 1;
-        for _ in size..20 {
+        for _ in size..WIDE_BITS {
             factor = factor.saturating_mul(2);
         }
         Width {
-            shift: size.saturating_sub(20),
+            shift: size.saturating_sub(WIDE_BITS),
             factor,
         }
     }
 
-    /// How far an item of this reduced value is in, from 0 to 65,536: all where it is above the width, nothing where it is
+    /// How far an item of this reduced value is in, from 0 to `WHOLE`: all where it is above the width, nothing where it is
     /// as far below 0.
     pub(crate) fn share(&self, reduced: i128) -> i64 {
         let shifted = reduced >> self.shift.min(127);
-        let near = shifted.clamp(-1048576, 1048576) as i64;
+        let near = shifted.clamp(-(WIDE as i128), WIDE as i128) as i64;
         let scaled = near.saturating_mul(self.factor).clamp(-WIDE, WIDE);
-        (scaled + WIDE) / 32
+        (scaled + WIDE) / STEP
     }
 }
 
@@ -60,11 +69,11 @@ struct Search<'a> {
 }
 
 impl Search<'_> {
-    /// What the line would have, times 65,536, with each undecided item as far in as its share says, where the line's
+    /// What the line would have, times `WHOLE`, with each undecided item as far in as its share says, where the line's
     /// multiplier is this.
     fn drift(&self, to: i64) -> i128 {
         let by = to.saturating_sub(self.at);
-        let mut total = cost(&65536, &self.sketch.has(self.line));
+        let mut total = cost(&WHOLE, &self.sketch.has(self.line));
         for touch in self.row.touches.as_slice() {
             if self.sketch.is_open(touch.item) {
                 let shift = cost(&by, &touch.amount);

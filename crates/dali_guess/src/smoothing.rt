@@ -17,6 +17,13 @@ const LEVELS: u32 = 11;
 /// The most passes over the lines at a level.
 const PASSES: u32 = 30;
 
+/// The levels that smooth multipliers anew, and the most passes at each.
+const FIRST_NEAR_LEVEL: u32 = 8;
+
+const NEAR_LEVELS: u32 = 2;
+
+const NEAR_PASSES: u32 = 3;
+
 /// Multipliers of a partial choice, each 1 to 2^44, whose Sum may be small: the best that was met where each line in turn is
 /// brought about into balance, with each undecided place as far in as its reduced value is above 0 by smoothed measures
 /// that narrow. The work is at most 330 passes over the lines, each with at most 130 looks at an effect. Answers only want of
@@ -26,13 +33,50 @@ pub fn smoothed(alloc: Global, problem: &Problem, partial: &Partial) -> Result<L
     ensures { IfOk result (λ lam. IsTrue (lam_fits (length problem.now.lines) lam)) }
 {
     let board = Board::new(alloc, problem, partial)?;
-    let mut sketch = Sketch::new(alloc, &board, &Seq::new(alloc))?;
+    let sketch = Sketch::new(alloc, &board, &Seq::new(alloc))?;
+    let best = best_met(alloc, &board, sketch, 0, LEVELS, PASSES)?;
+    listed(alloc, problem, best.as_slice())
+}
+
+/// The same from multipliers that are near the best ones, in at most six passes of narrow measures.
+pub fn smoothed_near(
+    alloc: Global,
+    problem: &Problem,
+    partial: &Partial,
+    lam: &Lam,
+) -> Result<Lam, OutOfMemory>
+    requires { IsOf problem.now partial.now }
+    ensures { IfOk result (λ lam. IsTrue (lam_fits (length problem.now.lines) lam)) }
+{
+    let board = Board::new(alloc, problem, partial)?;
+    let sketch = Sketch::new(alloc, &board, lam)?;
+    let best = best_met(
+        alloc,
+        &board,
+        sketch,
+        FIRST_NEAR_LEVEL,
+        NEAR_LEVELS,
+        NEAR_PASSES,
+    )?;
+    listed(alloc, problem, best.as_slice())
+}
+
+/// The multipliers of least Sum that passes meet, so many levels from a first one, with so many passes at each.
+fn best_met(
+    alloc: Global,
+    board: &Board,
+    start: Sketch,
+    first: u32,
+    levels: u32,
+    passes: u32,
+) -> Result<Vec<i64>, OutOfMemory> {
+    let mut sketch = start;
     let mut best = Vec::from_slice(alloc, sketch.multipliers.as_slice())?;
     let mut least = sketch.total;
-    for level in 0..LEVELS {
-        let widths = widths(alloc, &board, level)?;
-        for _ in 0..PASSES {
-            let moved = sketch.pass(&board, widths.as_slice());
+    for level in 0..levels {
+        let widths = widths(alloc, board, first.saturating_add(level))?;
+        for _ in 0..passes {
+            let moved = sketch.pass(board, widths.as_slice());
             if sketch.total < least {
                 least = sketch.total;
                 copy_over(best.as_mut_slice(), sketch.multipliers.as_slice());
@@ -42,5 +86,5 @@ pub fn smoothed(alloc: Global, problem: &Problem, partial: &Partial) -> Result<L
             }
         }
     }
-    listed(alloc, problem, best.as_slice())
+    Ok(best)
 }

@@ -1,11 +1,9 @@
-use crate::board::{Board, Item, MOST_PRICE, Row, Touch};
+use crate::board::{Board, Item, MOST_PRICE, Row, Touch, WORTH};
 use crate::score::{cost, gain, rise, turned};
 use dali_base::OutOfMemory;
 use std::alloc::Global;
 
-/// What a centavo of value counts for at first, and the least and the most that it may.
-pub(crate) const WORTH: i64 = 4096;
-
+/// The least and the most that a centavo of value may count for.
 const LEAST_WORTH: i64 = 16;
 
 const MOST_WORTH: i64 = 1 << 24;

@@ -1,10 +1,11 @@
-use Rattle.std.proofs.Common.{◌≡◌, inl, inr, ℕ, zero, suc, ◌+◌, ◌*◌, ◌^◌, ◌<◌, ◌≤◌, ◌==◌, max, pos, ◌+ℤ◌, Bool, true, false, ◌&&◌, ◌||◌, List, [], ◌∷◌, length, sum_by, if◌then◌else◌, refl, ap, sym, ◌∙◌, subst, add-zero, arith}
+use Rattle.std.proofs.Common.{◌≡◌, inl, inr, ℕ, zero, suc, ◌+◌, ◌^◌, ◌<◌, ◌≤◌, ◌==◌, max, pos, ◌+ℤ◌, Bool, true, false, ◌&&◌, ◌||◌, List, [], ◌∷◌, length, sum_by, if◌then◌else◌, refl, ap, sym, ◌∙◌, subst, add-zero, arith}
 use Rattle.std.specs.List.{All, AllPairs, Any, filter}
 use Rattle.std.proofs.Math.Nat.{pow-le-pow_right}
 use Rattle.std.proofs.lemmas.Bool.{cases_lt, and_from, or_left, or_right, eq-eqb}
 use Rattle.std.proofs.lemmas.Int.{ints}
 use Rattle.std.proofs.lemmas.List.Elements.{All-nil, All-cons, filter-append}
 use Rattle.std.proofs.lemmas.List.Sums.{sum_by-cons, sum_by-append}
+use Rattle.dali_base.specs.Limits.{most_bound}
 use Rattle.dali_problem.specs.Sums.{sum_below, pick}
 use Rattle.dali_problem.specs.Clearing.{Clearing, worth}
 use Rattle.dali_problem.specs.Limits.{IsProblem}
@@ -96,7 +97,7 @@ pub record Ends (p : Clearing) (budget v bound : ℕ) (total : Total) (s : List 
   pub grown : IsGrown p (start_of p) s
   pub value : v ≡ value_of p s
   pub bound_is : bound ≡ max v total.greatest
-  pub small : total.greatest ≤ 16384 * 10 ^ 15
+  pub small : total.greatest ≤ most_bound
   pub stands : Stands p bound v (start_of p) total tree
   pub within : total.branches ≤ budget
   pub ended : total.branches < budget → total.greatest ≤ v

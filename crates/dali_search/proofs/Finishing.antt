@@ -1,7 +1,8 @@
-use Rattle.std.proofs.Common.{◌≡◌, inl, inr, ℕ, ◌*◌, ◌^◌, set, ◌<◌, ◌≤◌, pos, ◌≤ℤ◌, true, false, ◌&&◌, ◌||◌, not, List, length, Some, ap, sym, ◌∙◌, subst, arith}
+use Rattle.std.proofs.Common.{◌≡◌, inl, inr, ℕ, set, ◌<◌, ◌≤◌, pos, ◌≤ℤ◌, true, false, ◌&&◌, ◌||◌, not, List, length, Some, ap, sym, ◌∙◌, subst, arith}
 use Rattle.std.specs.Int.Signed.{lt_z, le_z}
 use Rattle.std.proofs.lemmas.Bool.{cases_Bool, and_from, and_parts, lt-ltb}
 use Rattle.std.proofs.lemmas.Int.{ints}
+use Rattle.dali_base.specs.Limits.{most_bound}
 use Rattle.dali_problem.specs.declared.mark.Mark.{Mark}
 use Rattle.dali_problem.specs.declared.mark.Mark.TheVariants.{Undecided}
 use Rattle.dali_problem.specs.Clearing.{Clearing}
@@ -63,7 +64,7 @@ reduced_of p f (inl reduced) long = all_reduced p f reduced
 reduced_of p f (inr short) long = absurd (false_true (sym (long short.line short.within) ∙ short.short))
 
 -- what an end has that may be branched
-pub open_holds : (p : Clearing) (v : ℕ) (f : List Mark) (lam : List (ℕ × ℕ)) (bound : ℕ) → lam_fits (length p.lines) lam ≡ true → bound ≤ 16384 * 10 ^ 15 →
+pub open_holds : (p : Clearing) (v : ℕ) (f : List Mark) (lam : List (ℕ × ℕ)) (bound : ℕ) → lam_fits (length p.lines) lam ≡ true → bound ≤ most_bound →
     closes p bound lam f ≡ true → (0 < bound → reaches p bound lam f ≡ true) → is_settled p f (multiplier lam) ≡ true → IsDone p f →
     ((l : ℕ) → l < length p.lines → is_short p f l ≡ false) → IsOffered p f v → IsOpenAt p v f lam bound
 open_holds p v f lam bound listed small above least settled done long offered = record {

@@ -1,6 +1,7 @@
-use Rattle.std.proofs.Common.{◌≡◌, inl, inr, ℕ, ◌+◌, ◌*◌, ◌^◌, ◌<◌, ◌≤◌, max, true, Some, List, [], ◌∷◌, length, set, eqb, if◌then◌else◌, refl, ap, sym, ◌∙◌, subst, arith}
+use Rattle.std.proofs.Common.{◌≡◌, inl, inr, ℕ, ◌+◌, ◌<◌, ◌≤◌, max, true, Some, List, [], ◌∷◌, length, set, eqb, if◌then◌else◌, refl, ap, sym, ◌∙◌, subst, arith}
 use Rattle.std.proofs.lemmas.Bool.{eq-eqb, ne_eqb}
 use Rattle.std.proofs.lemmas.List.{length-set}
+use Rattle.dali_base.specs.Limits.{most_bound}
 use Rattle.dali_problem.specs.declared.mark.Mark.{Mark}
 use Rattle.dali_problem.specs.declared.mark.Mark.TheVariants.{Chosen, Left}
 use Rattle.dali_problem.specs.Clearing.{Clearing}
@@ -177,7 +178,7 @@ searched_added p v best nodes totals more k f split limits searched above is_bes
     }
 
 -- the arena of a root alone
-leaf_small : (p : Clearing) (v : ℕ) (f : List Mark) (end : NodeEnd) → LeafHolds p v f end → (total_of [] end).greatest ≤ 16384 * 10 ^ 15
+leaf_small : (p : Clearing) (v : ℕ) (f : List Mark) (end : NodeEnd) → LeafHolds p v f end → (total_of [] end).greatest ≤ most_bound
 leaf_small p v f (Open lam bound) holds = holds.small
 leaf_small p v f (Pruned line) holds = omega arith
 leaf_small p v f (Branched place lam inside outside) holds = absurd holds

@@ -1,6 +1,7 @@
-use Rattle.std.proofs.Common.{◌≡◌, ℕ, ◌*◌, ◌^◌, ◌<◌, ◌≤◌, ℤ, pos, ◌≤ℤ◌, ◌*ℤ◌, Bool, true, false, not, List, length, refl, ap, sym, ◌∙◌, subst, arith}
+use Rattle.std.proofs.Common.{◌≡◌, ℕ, ◌*◌, ◌<◌, ◌≤◌, ℤ, pos, ◌≤ℤ◌, ◌*ℤ◌, Bool, true, false, not, List, length, refl, ap, sym, ◌∙◌, subst, arith}
 use Rattle.std.proofs.lemmas.Bool.{not-false, not-true}
 use Rattle.std.proofs.lemmas.Int.{ints, clamps}
+use Rattle.dali_base.specs.Limits.{most_bound}
 use Rattle.dali_problem.specs.declared.mark.Mark.{Mark}
 use Rattle.dali_problem.specs.declared.mark.Mark.TheVariants.{Stranger, Undecided, Chosen, Left}
 use Rattle.dali_problem.specs.Sums.{pick}
@@ -80,7 +81,7 @@ counted_all Undecided z up = omega (arith, ints, clamps, up)
 counted_all Stranger z up = omega (arith, ints, up)
 counted_all Left z up = omega (arith, ints, up)
 
-pub zero_small : (p : Clearing) (f : List Mark) → IsProblem p → sum_of p f (λ _. 0) ≤ℤ pos (4096 * (16384 * 10 ^ 15))
+pub zero_small : (p : Clearing) (f : List Mark) → IsProblem p → sum_of p f (λ _. 0) ≤ℤ pos (4096 * most_bound)
 zero_small p f limits =
     let all : List ℕ = all_places (length p.items) in
     let are : ArePlaces p all = record { rising = (places_rise (length p.items)).rising; in_range = (places_rise (length p.items)).in_range } in

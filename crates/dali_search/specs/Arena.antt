@@ -1,5 +1,6 @@
-use Rattle.std.specs.Prelude.{◌≡◌, ℕ, ◌*◌, ◌^◌, ◌<◌, ◌≤◌, true, Some, List, length, slice_set}
+use Rattle.std.specs.Prelude.{◌≡◌, ℕ, ◌<◌, ◌≤◌, true, Some, List, length, slice_set}
 use Rattle.std.specs.List.{list_all}
+use Rattle.dali_base.specs.Limits.{most_bound}
 use Rattle.dali_problem.specs.declared.mark.Mark.{Mark}
 use Rattle.dali_problem.specs.declared.mark.Mark.TheVariants.{Undecided, Chosen, Left}
 use Rattle.dali_problem.specs.Clearing.{Clearing}
@@ -19,7 +20,7 @@ use Rattle.dali_search.specs.Nodes.{node_at, AreLinked}
 -- no fix rule is left, and where the bound is above v some member is undecided
 pub record IsOpenAt (p : Clearing) (v : ℕ) (f : List Mark) (lam : List (ℕ × ℕ)) (bound : ℕ) : Type 0 where
   pub listed : lam_fits (length p.lines) lam ≡ true
-  pub small : bound ≤ 16384 * 10 ^ 15
+  pub small : bound ≤ most_bound
   pub above : closes p bound lam f ≡ true
   pub least : 0 < bound → reaches p bound lam f ≡ true
   pub worked : is_worked p lam f ≡ true

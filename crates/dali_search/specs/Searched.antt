@@ -1,4 +1,5 @@
-use Rattle.std.specs.Prelude.{◌≡◌, ℕ, ◌+◌, ◌*◌, ◌^◌, ◌≤◌, max, List, length}
+use Rattle.std.specs.Prelude.{◌≡◌, ℕ, ◌+◌, ◌*◌, ◌≤◌, max, List, length}
+use Rattle.dali_base.specs.Limits.{most_bound}
 use Rattle.dali_problem.specs.Clearing.{Clearing}
 use Rattle.dali_search.specs.declared.node.Node.{Node}
 use Rattle.dali_search.specs.declared.node.Total.{Total}
@@ -12,4 +13,4 @@ pub record IsSearched (p : Clearing) (v : ℕ) (nodes : List Node) (totals : Lis
   pub has : HasArena p (max v (total_at totals 0).greatest) v (start_of p) nodes
   pub exact : AreTotals nodes totals
   pub size : length nodes ≡ 2 * (total_at totals 0).branches + 1
-  pub small : (total_at totals 0).greatest ≤ 16384 * 10 ^ 15
+  pub small : (total_at totals 0).greatest ≤ most_bound

@@ -1,5 +1,5 @@
 ghost use Rattle.std.specs.Prelude.{◌≡◌, ℕ, ◌*◌, ◌+◌, ◌^◌, ◌<◌, ◌≤◌, ℤ, pos, ◌≤ℤ◌, ◌<ℤ◌, true, length, IfSome, IfNone, false, IsTrue};
-ghost use Rattle.dali_base.specs.Limits.{most_worths};
+ghost use Rattle.dali_base.specs.Limits.{most_bound};
 ghost use Rattle.dali_problem.specs.Kept.{IsOf};
 ghost use Rattle.dali_problem.specs.Rules.{is_short};
 ghost use Rattle.dali_lagrange.specs.Bound.{sum_of};
@@ -20,7 +20,7 @@ pub(crate) fn bound(problem: &Problem, partial: &Partial, lam: &Lam, point: &mut
     requires lam { AreMultipliers (length problem.now.lines) lam.now }
     requires under { sum_of problem.now partial.now.marks (multiplier lam.now) ≤ℤ sum_of problem.now partial.now.marks (λ _. 0) }
     ensures point { length point.new ≡ length point.old }
-    ensures small { result ≤ most_worths }
+    ensures small { result ≤ most_bound }
     ensures above { closes problem.now result lam.now partial.now.marks ≡ true }
     ensures least { 0 < result → reaches problem.now result lam.now partial.now.marks ≡ true }
 {
@@ -29,7 +29,7 @@ pub(crate) fn bound(problem: &Problem, partial: &Partial, lam: &Lam, point: &mut
 }
 
 /// The Sum of these multipliers.
-fn sum_of_lam(problem: &Problem, partial: &Partial, lam: &Lam, point: &mut Point) -> i128
+pub(crate) fn sum_of_lam(problem: &Problem, partial: &Partial, lam: &Lam, point: &mut Point) -> i128
     requires of { IsOf problem.now partial.now }
     requires point { length point.old ≡ length problem.now.lines }
     requires lam { AreMultipliers (length problem.now.lines) lam.now }
@@ -69,8 +69,8 @@ fn is_least(sum: &i128, other: &i128) -> bool
 
 /// How many whole centavos a Sum has.
 fn floor(sum: &i128) -> u64
-    requires { sum.now ≤ℤ pos (scale * most_worths) }
-    ensures small { result ≤ most_worths }
+    requires { sum.now ≤ℤ pos (scale * most_bound) }
+    ensures small { result ≤ most_bound }
     ensures above { sum.now <ℤ pos (scale * (result + 1)) }
     ensures least { 0 < result → pos (scale * result) ≤ℤ sum.now }
 {

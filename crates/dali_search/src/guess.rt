@@ -6,8 +6,9 @@ use crate::best::Best;
 use crate::desk::Desk;
 use crate::offer::suggest;
 use dali_base::OutOfMemory;
-use dali_guess::flips;
+use dali_guess::{flips, repaired};
 use dali_problem::Problem;
+use dali_tree::Lam;
 use std::alloc::Global;
 
 /// How many flips for each undecided place the guess at the root makes.
@@ -28,11 +29,12 @@ pub(crate) fn flips_behind(branches: u64) -> u64 {
 }
 
 /// Guesses a set that agrees with the partial choice on the desk, where one may be worth more than the best one, which is
-/// where the guess begins; and keeps it where it is.
+/// where the guess begins; and keeps it where it is. At the root a set is first repaired at its multipliers.
 pub(crate) fn guess(
     alloc: Global,
     problem: &Problem,
     desk: &Desk,
+    lam: &Lam,
     bound: u64,
     best: &mut Best,
 ) -> Result<(), OutOfMemory>
@@ -43,6 +45,10 @@ pub(crate) fn guess(
 {
     if desk.flips_each == 0 || bound <= best.value {
         return Ok(());
+    }
+    if desk.is_root {
+        let set = repaired(alloc, problem, &desk.partial, lam)?;
+        suggest(alloc, problem, &desk.whole, &set, best)?;
     }
     let set = flips(alloc, problem, &desk.partial, &best.places, desk.flips_each)?;
     suggest(alloc, problem, &desk.whole, &set, best)

@@ -12,7 +12,7 @@ use dali_tree::Lam;
 use std::alloc::Global;
 
 /// How many places a guess looks at.
-const LOOKS: u32 = 8;
+const LOOKS: u32 = 32;
 
 /// The multipliers by which a branch goes: guessed ones, settled, where their Sum isn't smaller than that of those given, and
 /// else those given.

@@ -104,10 +104,11 @@ fn finish(
         &desk.partial,
         start,
         desk.is_root,
+        best.value,
         &mut desk.point,
     )?;
     let bound = bound(problem, &desk.partial, &lam, &mut desk.point);
-    guess(alloc, problem, desk, bound, best)?;
+    guess(alloc, problem, desk, &lam, bound, best)?;
     offer(alloc, problem, &desk.partial, &desk.whole, best)?;
     Ok(NodeEnd::Open { lam, bound })
 }

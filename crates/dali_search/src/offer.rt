@@ -101,9 +101,6 @@ pub(crate) fn suggest(
     ensures best { IsBest problem.now best.new }
     ensures not_worse { best.old.value ≤ best.new.value }
 {
-    if problem.value_of(set) <= best.value {
-        return Ok(());
-    }
     if let Some(places) = grow(alloc, problem, whole, set)? {
         replace(problem, places, best);
     }

@@ -2,6 +2,9 @@ use Rattle.std.proofs.Common.{length}
 use Rattle.dali_lagrange.proofs.Lists.{fits_are}
 use Rattle.dali_search.proofs.multipliers.settle_well.Goals as goal
 
+pub is_closed-requires-clause-lam : goal.is_closed-requires-clause-lam
+is_closed-requires-clause-lam c = fits_are (length c.args.problem.now.lines) c.in_ok-lam.lam c.in_ok-lam.ensures.fits
+
 pub settle-requires-2-clause-start : goal.settle-requires-2-clause-start
 settle-requires-2-clause-start c = fits_are (length c.args.problem.now.lines) c.in_ok-guess.guess c.in_ok-guess.ensures
 
