@@ -52,7 +52,7 @@ fn every_fault(rt: HostRuntime) -> Result<(), Fail> {
     Ok(())
 }
 
-/// The same of the run over the day's own journal: a sync and 13 reads open it and read its eleven records, and each of eleven
+/// The same of the run over the day's own journal: a sync and two reads open it and read its eleven records, and each of eleven
 /// replies is put by itself.
 #[test]
 fn every_fault_of_a_rerun(rt: HostRuntime) -> Result<(), Fail> {

@@ -2,18 +2,17 @@
 use Rattle.std.proofs.Common.{◌≡◌, ◌∙◌, ℕ, ◌+◌, ◌≤◌, Bool, List, [], length, refl, sym, ap, subst, arith}
 use Rattle.std.specs.Prelude.{IsTrue}
 use Rattle.std.proofs.lemmas.List.Elements.{All-nil}
-use Rattle.dali_outside.specs.Outside.{Sight, Rose, Goes, SameDisk, SameText}
+use Rattle.dali_outside.specs.Outside.{Sight}
 use Rattle.dali_entry.specs.EntryRecord.{EntryRecord}
 use Rattle.dali_record.specs.IsRecord.{IsWithin}
 use Rattle.dali_machine.specs.Machine.{Machine, opening}
 use Rattle.dali_machine.specs.History.{IsLegal, state_of}
-use Rattle.dali_journal.specs.Holds.{HoldsAt}
 use Rattle.dali_journal.specs.Frames.{frames_length}
 use Rattle.dali_journal.specs.declared.refusal.Damage.{Damage}
 use Rattle.dali_recover.specs.Spells.{records_of, AreEntriesIn}
 use Rattle.dali_recover.specs.Reported.{AreReported}
 use Rattle.dali_recover.specs.Damaged.{ReadsTo, DamagedAt}
-use Rattle.dali_recover.specs.Recovers.{IsReadTo, IsFound}
+use Rattle.dali_recover.specs.Recovers.{IsReadTo}
 use Rattle.dali_recover.specs.Taking.{Quiet, SoFar}
 use Rattle.dali_recover.specs.declared.found.Found.{Found}
 
@@ -57,11 +56,9 @@ so_far_start tells s found state entries tail whole reads = record {
 }
 
 module _ (tells : Bool) (old mid : Sight) (before : Found) (so_far : SoFar tells old mid before) where
-  pub read_now : IsReadTo mid.size before
-  read_now = subst (λ n. IsReadTo n before) (sym so_far.quiet.goes.same_size) so_far.read
-
-  pub reads_now : IsTrue tells → ReadsTo before.journal.tail before.journal.edition before.entries mid.bytes
-  reads_now t = subst (λ (bs : List ℕ). ReadsTo before.journal.tail before.journal.edition before.entries bs) (sym (so_far.quiet.disk t).bytes) (so_far.reads t)
+  -- calls that read alone
+  pub so_far_on : (new : Sight) → Quiet tells mid new → SoFar tells old new before
+  so_far_on new quiet = record { read = so_far.read; reads = so_far.reads; quiet = quiet_on tells old mid new so_far.quiet quiet }
 
   -- one more record
   pub so_far_next : (new : Sight) (after : Found) → IsReadTo mid.size after → (IsTrue tells → ReadsTo after.journal.tail after.journal.edition after.entries mid.bytes) → Quiet tells mid new →
@@ -72,15 +69,5 @@ module _ (tells : Bool) (old mid : Sight) (before : Found) (so_far : SoFar tells
     quiet = quiet_on tells old mid new so_far.quiet quiet;
   }
 
-  pub found_since : (after : Found) → IsFound mid.size after → IsFound old.size after
-  found_since after is = subst (λ n. IsFound n after) so_far.quiet.goes.same_size is
-
-  pub holds_since : (after : Found) → IsTrue tells → HoldsAt after.journal.tail after.journal.edition (records_of after.entries) mid.bytes →
-      HoldsAt after.journal.tail after.journal.edition (records_of after.entries) old.bytes
-  holds_since after t is = subst (λ (bs : List ℕ). HoldsAt after.journal.tail after.journal.edition (records_of after.entries) bs) (so_far.quiet.disk t).bytes is
-
   pub damaged_since : (place : ℕ) (why : Damage) → IsTrue tells → DamagedAt mid.bytes place why → DamagedAt old.bytes place why
   damaged_since place why t is = subst (λ (bs : List ℕ). DamagedAt bs place why) (so_far.quiet.disk t).bytes is
-
-  pub rose_since : (new : Sight) → Rose mid.disk_faults new.disk_faults → Rose old.disk_faults new.disk_faults
-  rose_since new rose = omega (arith, rose, so_far.quiet.goes.disk)

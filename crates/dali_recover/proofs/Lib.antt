@@ -1,3 +1,4 @@
+pub mod Parts
 pub mod Histories
 pub mod Fronts
 pub mod Spelling

@@ -3,6 +3,7 @@ pub mod Reported
 pub mod Damaged
 pub mod Recovers
 pub mod Taking
+pub mod Pieces
 pub use Rattle.dali_machine.specs.History
 pub use Rattle.dali_machine.specs.Outcomes
 pub use Rattle.dali_journal.specs.Holds

@@ -7,9 +7,11 @@
 
 mod found;
 mod judging;
+mod piece;
 mod recovering;
 mod refusal;
 mod taking;
+mod window;
 
 pub use found::Found;
 pub use recovering::recover;

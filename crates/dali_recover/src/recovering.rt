@@ -7,11 +7,13 @@ ghost use Rattle.dali_journal.specs.Appends.{IsFirm};
 ghost use Rattle.dali_recover.specs.Spells.{records_of, Spells, SpellsLegal};
 ghost use Rattle.dali_recover.specs.Damaged.{ReadsTo, DamagedAt};
 ghost use Rattle.dali_recover.specs.Recovers.{IsReadTo, IsFound, RestsWith, IsWant};
+ghost use Rattle.dali_recover.specs.Pieces.{StandFrom};
 ghost use Rattle.dali_recover.specs.Taking.{Quiet, no_at};
 
 use crate::found::Found;
 use crate::refusal::{Denial, RecoverNo};
 use crate::taking::take_payload;
+use crate::window::{Window, next_record};
 use dali_base::Seq;
 use dali_journal::{Damage, Journal, open_journal};
 use dali_machine::State;
@@ -19,7 +21,8 @@ use dali_outside::Site;
 use std::alloc::Global;
 
 /// The legal history that the device spells, with the state after it and the journal at its closed gate. Opens the
-/// journal, which syncs, and reads each record once; nothing is written, and nothing is searched.
+/// journal, which syncs, and reads its records in one pass, as many at once as a piece has; nothing is written, and nothing
+/// is searched.
 ///
 /// `Damaged` comes exactly where the calls of the disk worked, memory was there and the bytes spell no legal history,
 /// with the first place that is wrong, and what is first wrong there. `DiskFault` comes only where the count of disk
@@ -81,12 +84,23 @@ fn read_history<T: Site>(alloc: Global, site: &mut T, journal: Journal) -> Resul
         entries: Seq::new(alloc),
         journal,
     };
-    while take_next(alloc, site, &mut found)? {}
-    Ok(found)
+    let mut window = Window::new(alloc);
+    loop {
+        window.reach(alloc, site, &found.journal)?;
+        if !take_next(alloc, site, &window, &mut found)? {
+            return Ok(found);
+        }
+    }
 }
 
-/// Reads the next record and takes its entry: whether there was one.
-fn take_next<T: Site>(alloc: Global, site: &mut T, found: &mut Found) -> Result<bool, RecoverNo>
+/// Takes the entry of the next record, out of the window where it is there: whether there was one.
+fn take_next<T: Site>(
+    alloc: Global,
+    site: &mut T,
+    window: &Window,
+    found: &mut Found,
+) -> Result<bool, RecoverNo>
+    requires stand { IsTrue T.tells → StandFrom window.now.from window.now.bytes.items (T.sight site.old).bytes }
     requires read { IsReadTo (T.sight site.old).size found.old }
     requires reads { IsTrue T.tells → ReadsTo found.old.journal.tail found.old.journal.edition found.old.entries (T.sight site.old).bytes }
     ensures read { IfOk result (λ more. IsTrue more → IsReadTo (T.sight site.old).size found.new) }
@@ -102,7 +116,7 @@ fn take_next<T: Site>(alloc: Global, site: &mut T, found: &mut Found) -> Result<
     let _size = site.size();
     let place = found.journal.tail();
     let edition = found.journal.edition();
-    match found.journal.next_record(alloc, site)? {
+    match next_record(alloc, site, window, &mut found.journal)? {
         None => Ok(false),
         Some(payload) => {
             match take_payload(

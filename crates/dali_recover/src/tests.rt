@@ -208,32 +208,76 @@ fn whole_devices(rt: HostRuntime) -> Result<(), Fail> {
     Ok(())
 }
 
-/// The device of three lines, of which this call alone fails: what is found, and how many calls were made.
-fn failing(alloc: Global, call: u64) -> Result<(Answer, u64), OutOfMemory> {
-    let mut fails = Faults::new(alloc);
-    fails.push(Fault { call, went: 0 })?;
-    let image = image(alloc, 4096, &[THREE])?;
+/// What is found on a device of which these calls fail, and how many were made.
+fn counted(alloc: Global, image: Text, fails: Faults) -> Result<(Answer, u64), OutOfMemory> {
     let mut site = MemSite::from_image(alloc, image, 0, 64, 0, fails)?;
     let answer = answer_of(recover(alloc, &mut site));
     Ok((answer, site.made()))
 }
 
-/// Two calls open the journal, two read each of its records, and one the closed gate.
+/// The device of three lines, of which this call alone fails: what is found, and how many calls were made.
+fn failing(alloc: Global, call: u64) -> Result<(Answer, u64), OutOfMemory> {
+    let mut fails = Faults::new(alloc);
+    fails.push(Fault { call, went: 0 })?;
+    counted(alloc, image(alloc, 4096, &[THREE])?, fails)
+}
+
+/// Two calls open the journal, and one reads all its records and the closed gate.
 #[test]
 fn each_call_is_made_once(rt: HostRuntime) -> Result<(), Fail> {
     let alloc = rt.alloc();
-    for call in 1..10 {
+    for call in 1..4 {
         assert_eq!(rt; failing(alloc, call)?, (Answer::DiskFault, call));
     }
     assert_eq!(rt;
-        failing(alloc, 10)?,
+        failing(alloc, 4)?,
         (
             Answer::Found {
                 entries: 3,
                 tail: 91
             },
-            9
+            3
         )
+    );
+    Ok(())
+}
+
+/// A piece of 65,536 bytes has 2,978 records of 22 bytes and the front of one more, so three pieces have 6,000 records.
+#[test]
+fn pieces(rt: HostRuntime) -> Result<(), Fail> {
+    let alloc = rt.alloc();
+    let mut text = image(alloc, 0, &[&OPEN[..16]])?;
+    for _ in 0..6000 {
+        text.add(&TWO[16..38])?;
+    }
+    text.push(0)?;
+    assert_eq!(rt;
+        counted(alloc, text, Faults::new(alloc))?,
+        (
+            Answer::Found {
+                entries: 6000,
+                tail: 132_016
+            },
+            5
+        )
+    );
+    Ok(())
+}
+
+/// A record that is longer than a piece is read by itself, in two reads behind that of the piece: here it is none.
+#[test]
+fn long_record(rt: HostRuntime) -> Result<(), Fail> {
+    let alloc = rt.alloc();
+    let front: [&[u8]; 2] = [&TWO[..38], b"\x01\0\x01\0\0"];
+    let text = image(alloc, 65_580, &front)?;
+    assert_eq!(rt;
+        counted(alloc, text, Faults::new(alloc))?,
+        (damaged(38, Damage::Entry), 6)
+    );
+    let text = image(alloc, 65_579, &front)?;
+    assert_eq!(rt;
+        counted(alloc, text, Faults::new(alloc))?,
+        (damaged(38, Damage::Length), 4)
     );
     Ok(())
 }

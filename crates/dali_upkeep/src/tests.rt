@@ -33,9 +33,8 @@ const HEADER: &[u8] = b"number,command,account,asset,delta,after\n";
 const TABLE: &[u8] =
     b"number,command,account,asset,delta,after\n1,3,A,MXN,100,100\n2,5,A,MXN,-30,70\n3,5,B,MXN,30,30\n";
 
-/// What recovery calls of the disk for a journal of two lines: a sync, the header, two reads for each record, and the
-/// closed gate.
-const CALLS: u64 = 7;
+/// What recovery calls of the disk for a journal of two lines: a sync, the header, and one read of its records.
+const CALLS: u64 = 3;
 
 /// The journal of PART A and PART B without its edition bytes: what stands before these, and what stands behind them.
 const HEAD: &[u8] = b"DALI-JOURNAL";
