@@ -34,7 +34,8 @@ returns-in-Err-clause-gate g c is = absurd (c.in-Err.ensures.usage Gate is)
 pub returns-in-Ok-Gen-clause-generates : goal.returns-in-Ok-Gen-clause-generates
 returns-in-Ok-Gen-clause-generates g c n job =
     let own : IsJob c.args.words.now (Gen c.in-Ok-Gen.n) = subst (IsJob c.args.words.now) c.in-Ok-Gen.field-0-is c.in-Ok-Gen.ensures.ok in
-    (refl, subst (λ k. GenOver k g.T.Site.tells (g.T.Site.sight c.args.site.now) (g.T.Site.sight c.run_gen.new.site) c.run_gen.result) (one_number c.args.words.now c.in-Ok-Gen.n n own job) c.run_gen.ensures)
+    let done = subst (λ k. GenOver k g.T.Site.tells (g.T.Site.sight c.args.site.now) (g.T.Site.sight c.run_gen.new.site) c.run_gen.result) (one_number c.args.words.now c.in-Ok-Gen.n n own job) c.run_gen.ensures in
+    (refl, subst (GenOver n g.T.Site.tells (g.T.Site.sight c.args.site.now) (g.T.Site.sight c.run_gen.new.site)) (sym c.whole-in-Ok-Gen.ensures.same) done)
 
 pub returns-in-Err-clause-tries : goal.returns-in-Err-clause-tries
 returns-in-Err-clause-tries g c n is = absurd (c.in-Err.ensures.usage (Trial n) is)
@@ -48,4 +49,5 @@ returns-in-Err-clause-follows g c is = absurd (c.in-Err.ensures.usage Follow is)
 pub returns-in-Ok-Trial-clause-tries : goal.returns-in-Ok-Trial-clause-tries
 returns-in-Ok-Trial-clause-tries g c n job =
     let own : IsJob c.args.words.now (Trial c.in-Ok-Trial.n) = subst (IsJob c.args.words.now) c.in-Ok-Trial.field-0-is c.in-Ok-Trial.ensures.ok in
-    (refl, subst (λ k. TrialOver k g.T.Site.tells (g.T.Site.sight c.args.site.now) (g.T.Site.sight c.run_trial.new.site) c.run_trial.result) (one_trial c.args.words.now c.in-Ok-Trial.n n own job) c.run_trial.ensures)
+    let done = subst (λ k. TrialOver k g.T.Site.tells (g.T.Site.sight c.args.site.now) (g.T.Site.sight c.run_trial.new.site) c.run_trial.result) (one_trial c.args.words.now c.in-Ok-Trial.n n own job) c.run_trial.ensures in
+    (refl, subst (TrialOver n g.T.Site.tells (g.T.Site.sight c.args.site.now) (g.T.Site.sight c.run_trial.new.site)) (sym c.whole-in-Ok-Trial.ensures.same) done)
