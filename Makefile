@@ -3,7 +3,7 @@ DAY ?= examples/first.day
 CRATES ?=
 PREFIX ?= /usr/local
 
-.PHONY: demo build test quick edits outside blocks try bench examples audit install deb recipes
+.PHONY: demo build test quick edits outside blocks try bench examples audit install deb recipes around
 
 # Shows a gridlock freed, over a journal: by the built program, which is killed and run again, or by the same sources before
 # their proof.
@@ -14,9 +14,9 @@ demo:
 build:
 	tools/build
 
-# The gate: every proof, must-fail edit, test and stored run.
+# The gate: every proof, must-fail edit, test and stored run, and what stands around the program that it built.
 test:
-	rt ci
+	.ci/run
 
 # Every crate's tests, or those of CRATES, before any proof.
 quick:
@@ -73,3 +73,7 @@ install:
 # Packs the same as a package of Debian, in out/.
 deb:
 	tools/deb
+
+# What of these needs no more than the machine has, in less than three minutes; the gate runs it behind its proofs.
+around:
+	tools/around
