@@ -41,8 +41,8 @@ edits:
 try:
 	tools/try $(DAY)
 
-# Times the proved program, the gateway, the journal, the checker, the search, `check`, recovery, the words beside a day, and `ship`
-# into `follow`.
+# Times the proved program, the gateway, the journal, the checker, the search, `check`, records, recovery, the words beside a day,
+# and `ship` into `follow`.
 bench: build
 	bench/day/run
 	bench/gate/run
@@ -50,6 +50,7 @@ bench: build
 	bench/checker/run
 	bench/search/run
 	bench/check/run
+	bench/record/run
 	bench/recover/run
 	bench/words/run
 	bench/ship/run
