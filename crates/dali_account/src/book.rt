@@ -134,10 +134,14 @@ impl Book {
         ensures refusal { Answers (account_refusal self.old.book account) result }
         ensures ok { OnOk result (self.new.book ≡ record self.old.book { accounts = self.old.book.accounts ++ account ∷ [] }) }
         ensures totals { (asset : List ℕ) → total_of self.new.book asset ≡ total_of self.old.book asset }
+
+        // what was taken in advance
         ensures readied { self.old.readied_account ≡ Some account → result ≢ Err BookNo.OutOfMemory }
         ensures readied_account { OnOk result (self.new.readied_account ≡ None) }
         ensures readied_code { self.new.readied_code ≡ self.old.readied_code }
         ensures spare { self.new.spare_lines ≡ self.old.spare_lines }
+
+        // at a refusal
         ensures err { OnErr result (self.new ≡ self.old) }
     {
         if self.accounts.place(account).is_some() {
@@ -159,13 +163,19 @@ impl Book {
     pub fn add_asset(&mut self, code: Name, price: u64) -> Result<(), BookNo>
         requires from_one { 1 ≤ price }
         requires to_limit { price ≤ most_price }
+
+        // what is answered, and the book then
         ensures refusal { Answers (asset_refusal self.old.book code) result }
         ensures ok { OnOk result (self.new.book ≡ record self.old.book { codes = self.old.book.codes ++ (code, price) ∷ [] }) }
         ensures totals { (asset : List ℕ) → total_of self.new.book asset ≡ total_of self.old.book asset }
+
+        // what was taken in advance
         ensures readied { self.old.readied_code ≡ Some code → result ≢ Err BookNo.OutOfMemory }
         ensures readied_code { OnOk result (self.new.readied_code ≡ None) }
         ensures readied_account { self.new.readied_account ≡ self.old.readied_account }
         ensures spare { self.new.spare_lines ≡ self.old.spare_lines }
+
+        // at a refusal
         ensures err { OnErr result (self.new ≡ self.old) }
     {
         if self.assets.has(code) {

@@ -146,9 +146,13 @@ fn check_parts(problem: &Problem, choice: &Choice, scratch: &mut Scratch) -> Res
     requires in_range { IsInRange (length problem.now.items) (length problem.now.lines) choice.now }
     requires whole { IsWhole problem.now choice.now }
     requires passed { (budget : ℕ) → Passed problem.now budget choice.now 6 }
+
+    // where all of them pass
     ensures ok { OnOk result ((budget : ℕ) → Passed problem.now budget choice.now 8) }
     ensures proved { OnOk result (All (λ part. proves_part problem.now part ≡ true) choice.now.parts) }
     ensures lean { OnOk result (All (λ part. lean_part problem.now part (value_in_part problem.now choice.now.places part) ≡ true) choice.now.parts) }
+
+    // the reason, and the scratch behind it
     ensures err { IfErr result (λ reason. (budget : ℕ) → IsReason problem.now budget choice.now reason) }
     ensures made { IsFor problem.now scratch.new }
 {
@@ -239,10 +243,14 @@ fn first_not_lean_marked(
     requires marks { length marks.now ≡ length problem.now.items }
     requires in_range { All (IsPartInRange (length problem.now.items) (length problem.now.lines)) parts.now }
     requires few { length parts.now ≤ most_items }
+
+    // the first that fails, or none
     ensures some { IfSome result (λ k. FirstFails (λ part. lean_part problem.now part
         (value_of problem.now (filter (λ j. slice_index_or marks.now j false) part.members))) parts.now k) }
     ensures none { IfNone result (All (λ part. lean_part problem.now part
         (value_of problem.now (filter (λ j. slice_index_or marks.now j false) part.members)) ≡ true) parts.now) }
+
+    // the scratch is as before
     ensures of { IsOf problem.now partial.new }
     ensures idle { All (λ m. m ≡ Left) partial.new.marks }
     ensures ready { IsReady problem.now kept.new }

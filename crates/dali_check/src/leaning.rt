@@ -54,7 +54,11 @@ pub(crate) fn lean_with(
     requires idle { All (λ m. m ≡ Left) partial.old.marks }
     requires ready { IsReady problem.now kept.old }
     requires in_range { IsPartInRange (length problem.now.items) (length problem.now.lines) part.now }
+
+    // the answer
     ensures answer { result ≡ lean_part problem.now part.now value }
+
+    // the scratch is as before
     ensures of { IsOf problem.now partial.new }
     ensures idle { All (λ m. m ≡ Left) partial.new.marks }
     ensures ready { IsReady problem.now kept.new }
@@ -91,8 +95,12 @@ fn node(
     requires of { IsOf problem.now partial.old }
     requires ready { IsReady problem.now kept.old }
     requires in_range { IsTrue (tree_in_range (length problem.now.items) (length problem.now.lines) tree.now) }
+
+    // the answer
     ensures answer { result ≡ lean_tree problem.now claim.bound claim.value tree.now partial.old.marks }
     ensures tight { IsTrue result → tight.new ≡ (tight.old || tight_tree problem.now claim.bound tree.now partial.old.marks) }
+
+    // the scratch is as before
     ensures of { IsOf problem.now partial.new }
     ensures marks { partial.new.marks ≡ partial.old.marks }
     ensures ready { IsReady problem.now kept.new }
@@ -117,8 +125,12 @@ fn end(
     requires of { IsOf problem.now partial.old }
     requires ready { IsReady problem.now kept.old }
     requires in_range { IsTrue (ends_in_range (length problem.now.items) (length problem.now.lines) end.now) }
+
+    // the answer
     ensures answer { result ≡ lean_ends problem.now claim.bound claim.value end.now partial.old.marks }
     ensures tight { IsTrue result → tight.new ≡ (tight.old || tight_ends problem.now claim.bound end.now partial.old.marks) }
+
+    // the scratch is as before
     ensures of { IsOf problem.now partial.new }
     ensures marks { partial.new.marks ≡ partial.old.marks }
     ensures ready { IsReady problem.now kept.new }
@@ -161,10 +173,14 @@ fn side(
     requires ready { IsReady problem.now kept.old }
     requires in_range { IsTrue (tree_in_range (length problem.now.items) (length problem.now.lines) tree.now) }
     requires undecided { mark partial.old.marks place ≡ Undecided }
+
+    // the answer
     ensures answer { result
         ≡ lean_tree problem.now claim.bound claim.value tree.now (slice_set partial.old.marks place (if chosen then Chosen else Left)) }
     ensures tight { IsTrue result → tight.new
         ≡ (tight.old || tight_tree problem.now claim.bound tree.now (slice_set partial.old.marks place (if chosen then Chosen else Left))) }
+
+    // the scratch is as before
     ensures of { IsOf problem.now partial.new }
     ensures marks { partial.new.marks ≡ partial.old.marks }
     ensures ready { IsReady problem.now kept.new }

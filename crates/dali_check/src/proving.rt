@@ -51,9 +51,13 @@ fn node(problem: &Problem, bound: u64, tree: &Tree, partial: &mut Partial, kept:
     requires of { IsOf problem.now partial.old }
     requires ready { IsReady problem.now kept.old }
     requires in_range { IsTrue (tree_in_range (length problem.now.items) (length problem.now.lines) tree.now) }
+
+    // the answer, and what it means
     ensures answer { result ≡ proves_tree problem.now bound tree.now partial.old.marks }
     ensures bound { IsTrue result → (t : List ℕ) → ArePlaces problem.now t → IsFeasible problem.now t → Agrees partial.old.marks t →
         value_of problem.now t ≤ bound }
+
+    // the scratch is as before
     ensures of { IsOf problem.now partial.new }
     ensures marks { partial.new.marks ≡ partial.old.marks }
     ensures ready { IsReady problem.now kept.new }
@@ -108,7 +112,11 @@ fn side(
     requires ready { IsReady problem.now kept.old }
     requires in_range { IsTrue (tree_in_range (length problem.now.items) (length problem.now.lines) tree.now) }
     requires undecided { mark partial.old.marks place ≡ Undecided }
+
+    // the answer
     ensures answer { result ≡ proves_tree problem.now bound tree.now (slice_set partial.old.marks place (if chosen then Chosen else Left)) }
+
+    // the scratch is as before
     ensures of { IsOf problem.now partial.new }
     ensures marks { partial.new.marks ≡ partial.old.marks }
     ensures ready { IsReady problem.now kept.new }

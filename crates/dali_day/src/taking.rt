@@ -41,15 +41,21 @@ fn take_next<S: Source, T: Site>(
     requires counted { register.old.state.machine.commands ≡ lines.old.given }
     requires few { lines.old.given ≤ MOST_OF_FILE }
     requires far { GoesOnSome S.tells T.tells lines.old register.old (S.feed source.old) (T.sight site.old) }
+
+    // how the run goes on, or ends
     ensures taken { (feed : Feed) (sight : Sight) (found : List EntryRecord) → HasFound T.tells sight register.old.journal.edition found →
         GoesOnTo S.tells T.tells feed sight found lines.old register.old (S.feed source.old) (T.sight site.old) →
         OnOk result (GoesOnTo S.tells T.tells feed sight found lines.new register.new (S.feed source.new) (T.sight site.new)) }
     ensures ended { (feed : Feed) (sight : Sight) (found : List EntryRecord) → HasFound T.tells sight register.old.journal.edition found →
         GoesOnTo S.tells T.tells feed sight found lines.old register.old (S.feed source.old) (T.sight site.old) →
         IfErr result (EndsSo S.tells T.tells feed (S.feed source.new) sight (T.sight site.new)) }
+
+    // what is counted
     ensures counted { OnOk result (register.new.state.machine.commands ≡ lines.new.given) }
     ensures given { OnOk result (lines.new.given ≡ lines.old.given + 1) }
     ensures bounded { lines.new.given ≤ MOST_OF_FILE }
+
+    // what stays
     ensures edition { register.new.journal.edition ≡ register.old.journal.edition }
 {
     match lines.next(source) {

@@ -54,11 +54,17 @@ fn take_piece<S: Source>(
     requires room { 0 < length piece.old }
     requires most { most + 1 < 2 ^ 64 }
     requires within { length bytes.old ≤ most }
+
+    // what is there
     ensures room { length piece.new ≡ length piece.old }
     ensures within { OnOk result (length bytes.new ≤ most) }
     ensures longer { IfOk result (λ more. more ≡ true → length bytes.old < length bytes.new) }
+
+    // what that is of the input
     ensures gathers { (old : Feed) → Gathers S.tells most old bytes.old (S.feed source.old) → OnOk result (Gathers S.tells most old bytes.new (S.feed source.new)) }
     ensures end { IsTrue S.tells → IfOk result (λ more. more ≡ false → (S.feed source.new).left ≡ []) }
+
+    // why it stops
     ensures stops { (old : Feed) → Gathers S.tells most old bytes.old (S.feed source.old) → IfErr result (λ e. EndsInput S.tells most old (S.feed source.new) (Err e)) }
 {
     let size = piece.len().min(most - bytes.len() + 1);

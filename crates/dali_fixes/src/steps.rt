@@ -19,13 +19,19 @@ use dali_tree::Fix;
 pub fn apply(problem: &Problem, fixes: &[Fix], partial: &mut Partial) -> usize
     requires of { IsOf problem.now partial.old }
     requires fits { IsTrue (list_all (fix_fits (length problem.now.items) (length problem.now.lines)) fixes.now) }
+
+    // how far the fixes hold
     ensures of { IsOf problem.now partial.new }
     ensures within { result ≤ length fixes.now }
     ensures taken { after problem.now (take result fixes.now) partial.old.marks ≡ Some partial.new.marks }
     ensures stopped { result < length fixes.now → (d : Fix) → holds problem.now partial.new.marks (slice_index_or fixes.now result d) ≡ false }
     ensures all { result ≡ length fixes.now → after problem.now fixes.now partial.old.marks ≡ Some partial.new.marks }
     ensures none { result < length fixes.now → after problem.now fixes.now partial.old.marks ≡ None }
+
+    // what that means for the sets that agree
     ensures worth { KeepsWorth problem.now partial.old.marks partial.new.marks }
+
+    // how they are taken back
     ensures back { undone (take result fixes.now) partial.new.marks ≡ partial.old.marks }
     ensures members { All (λ fix. mark partial.new.marks (place_of fix) ≢ Stranger) (take result fixes.now) }
 {

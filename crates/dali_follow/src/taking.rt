@@ -45,10 +45,14 @@ fn take_next<S: Source, T: Site>(
 ) -> Result<bool, FollowEnd>
     requires found { IsFound (T.sight site.old).size found.old }
     requires more { frames.old.over ≡ false }
+
+    // what the next one begins with
     ensures found { IfOk result (λ more. IsTrue more → IsFound (T.sight site.new).size found.new) }
     ensures more { IfOk result (λ more. IsTrue more → frames.new.over ≡ false) }
     ensures further { IfOk result (λ more. IsTrue more → frames.old.place < frames.new.place) }
     ensures limit { IfOk result (λ more. IsTrue more → frames.new.place ≤ most_stream) }
+
+    // how the run goes on, or ends
     ensures taken { (feed : Feed) (mid : Sight) (edition : ℕ) (history : List EntryRecord) →
         FollowsTo S.tells T.tells feed mid edition history frames.old found.old (S.feed source.old) (T.sight site.old) →
         IfOk result (λ more. IsTrue more → FollowsTo S.tells T.tells feed mid edition history frames.new found.new (S.feed source.new) (T.sight site.new)) }

@@ -102,12 +102,18 @@ impl Source for Gate {
 
     fn take(&mut self, into: &mut [u8]) -> Result<usize, Failed>
         ensures within { IfOk result (λ n. n ≤ length into.old) }
+
+        // what is given
         ensures taken { IfOk result (λ n. Takes into.new n (feed_of self.old) (feed_of self.new)) }
         ensures kept { OnErr result (self.new.left ≡ self.old.left) }
+
+        // the count of the faults, and when one comes
         ensures faults { (feed_of self.old).faults ≤ (feed_of self.new).faults }
         ensures quiet { OnOk result ((feed_of self.new).faults ≡ (feed_of self.old).faults) }
         ensures failed { OnErr result (Rose (feed_of self.old).faults (feed_of self.new).faults) }
         ensures works { is_ok result ≡ true }
+
+        // what stays
         ensures inboxes { self.new.inboxes ≡ self.old.inboxes }
         ensures turns { self.new.turns ≡ self.old.turns }
     {
@@ -149,8 +155,12 @@ fn give_open(inbox: &mut Inbox, ending: &mut usize, into: &mut [u8]) -> usize
     requires open_ { 0 < ending.old }
     requires ending { ending.old ≤ 2 }
     requires room { 0 < length into.old }
+
+    // what stays
     ensures whole { inbox.new.whole ≡ inbox.old.whole }
     ensures left { inbox.new.left ≡ inbox.old.left }
+
+    // what is given
     ensures ending { ending.new ≤ 2 }
     ensures some { 0 < result }
     ensures within { result ≤ length into.old }

@@ -134,11 +134,17 @@ impl Stand {
         requires start { ArePlaces problem.now start.now }
         requires places { ArePlaces problem.now chosen.now }
         requires chosen { HasMarked problem.now partial.now.marks Mark.Chosen chosen.now }
+
+        // the stand
         ensures of { IsStandOf problem.now self.new }
         ensures holds { IsTrue result → Holds problem.now self.new.marks }
         ensures goes { IsTrue result → GoesWith partial.now.marks self.new.marks }
+
+        // when there is none
         ensures overdrawn { IsFalse result → IsOverdrawn problem.now partial.now.marks }
         ensures begun { IsFeasible problem.now start.now → Agrees partial.now.marks start.now → IsTrue result }
+
+        // what it is worth
         ensures start { IsFeasible problem.now start.now → Agrees partial.now.marks start.now → StandsFor (length problem.now.items) start.now self.new.marks }
     {
         self.become_set(problem, start.as_slice());

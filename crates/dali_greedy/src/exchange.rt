@@ -14,9 +14,13 @@ impl Stand {
         requires holds { Holds problem.now self.old.marks }
         requires given { mark self.old.marks given ≡ Mark.Chosen }
         requires taken { mark self.old.marks taken ≡ Mark.Left }
+
+        // what it has become
         ensures of { IsStandOf problem.now self.new }
         ensures marks { IsTrue result → self.new.marks ≡ exchanged self.old.marks given taken }
         ensures holds { IsTrue result → Holds problem.now (exchanged self.old.marks given taken) }
+
+        // where it doesn't fit
         ensures same { IsFalse result → self.new.marks ≡ self.old.marks }
         ensures fails { IsFalse result → ¬ (Holds problem.now (exchanged self.old.marks given taken)) }
     {
@@ -51,9 +55,13 @@ impl Stand {
         requires left { mark self.old.marks place ≡ Mark.Left }
         requires tight { IsTight problem.now self.old place effect.now }
         requires touch { IsTouch problem.now effect.now.line touch.now }
+
+        // what it has become
         ensures of { IsStandOf problem.now self.new }
         ensures marks { IsTrue result → self.new.marks ≡ exchanged self.old.marks touch.now.place place }
         ensures betters { IsTrue result → Betters problem.now partial.now.marks self.old.marks place touch.now.place }
+
+        // where no exchange betters it
         ensures same { IsFalse result → self.new.marks ≡ self.old.marks }
         ensures none { IsFalse result → ¬ (Betters problem.now partial.now.marks self.old.marks place touch.now.place) }
     {
@@ -82,10 +90,16 @@ impl Stand {
         requires left { mark self.old.marks place ≡ Mark.Left }
         requires undecided { mark partial.now.marks place ≡ Mark.Undecided }
         requires tight { IsTight problem.now self.old place effect.now }
+
+        // what still holds
         ensures of { IsStandOf problem.now self.new }
         ensures holds { Holds problem.now self.new.marks }
         ensures goes { GoesWith partial.now.marks self.new.marks }
+
+        // where a way was made
         ensures more { IsTrue result → left_worth problem.now self.new.marks (length problem.now.items) < left_worth problem.now self.old.marks (length problem.now.items) }
+
+        // where none can be
         ensures same { IsFalse result → self.new.marks ≡ self.old.marks }
         ensures stuck { IsFalse result → IsStuck problem.now partial.now.marks self.old.marks place }
     {
@@ -113,10 +127,16 @@ impl Stand {
         requires partial { IsOf problem.now partial.now }
         requires goes { GoesWith partial.now.marks self.old.marks }
         requires place { place < length problem.now.items }
+
+        // what still holds
         ensures of { IsStandOf problem.now self.new }
         ensures holds { Holds problem.now self.new.marks }
         ensures goes { GoesWith partial.now.marks self.new.marks }
+
+        // where it got better
         ensures more { IsTrue result → left_worth problem.now self.new.marks (length problem.now.items) < left_worth problem.now self.old.marks (length problem.now.items) }
+
+        // where it can't
         ensures same { IsFalse result → self.new.marks ≡ self.old.marks }
         ensures stuck { IsFalse result → mark partial.now.marks place ≡ Mark.Undecided → mark self.old.marks place ≡ Mark.Left → IsStuck problem.now partial.now.marks self.old.marks place }
     {

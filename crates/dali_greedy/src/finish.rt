@@ -38,11 +38,17 @@ impl Stand {
         requires holds { Holds problem.now self.old.marks }
         requires room { IsRoomOf problem.now room.old }
         requires members { ArePlaces problem.now members.now }
+
+        // what still holds
         ensures of { IsStandOf problem.now self.new }
         ensures holds { Holds problem.now self.new.marks }
         ensures room { IsRoomOf problem.now room.new }
         ensures goes { (f : List Mark) → HasMarked problem.now f Mark.Undecided members.now → GoesWith f self.old.marks → GoesWith f self.new.marks }
+
+        // where more was added
         ensures added { IfOk result (λ found. IfNone found (left_worth problem.now self.new.marks (length problem.now.items) < left_worth problem.now self.old.marks (length problem.now.items))) }
+
+        // where nothing more can be
         ensures same { IfOk result (λ found. IfSome found (λ set. self.new.marks ≡ self.old.marks)) }
         ensures done { IfOk result (λ found. IfSome found (IsDone problem.now self.old.marks members.now)) }
     {

@@ -76,6 +76,8 @@ fn grow_on(
     requires of { IsStandOf problem.now stand.old }
     requires holds { Holds problem.now stand.old.marks }
     requires goes { GoesWith partial.now.marks stand.old.marks }
+
+    // the set
     ensures grown { IfOk result (IsGrown problem.now partial.now.marks) }
     ensures no_less { IfOk result (λ set. (s : List ℕ) → ArePlaces problem.now s → StandsFor (length problem.now.items) s stand.old.marks → value_of problem.now s ≤ value_of problem.now set) }
 {

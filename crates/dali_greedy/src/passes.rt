@@ -24,11 +24,17 @@ impl Stand {
         requires partial { IsOf problem.now partial.now }
         requires goes { GoesWith partial.now.marks self.old.marks }
         requires order { IsOrderOf problem.now order.now }
+
+        // what still holds
         ensures of { IsStandOf problem.now self.new }
         ensures holds { Holds problem.now self.new.marks }
         ensures goes { GoesWith partial.now.marks self.new.marks }
+
+        // what it is worth
         ensures no_more { left_worth problem.now self.new.marks (length problem.now.items) ≤ left_worth problem.now self.old.marks (length problem.now.items) }
         ensures fewer { IsTrue result → left_worth problem.now self.new.marks (length problem.now.items) < left_worth problem.now self.old.marks (length problem.now.items) }
+
+        // where no place can be bettered
         ensures stuck { IsFalse result → (j : ℕ) → mark partial.now.marks j ≡ Mark.Undecided → mark self.new.marks j ≡ Mark.Left → IsStuck problem.now partial.now.marks self.new.marks j }
     {
         let mut bettered = false;
@@ -54,9 +60,13 @@ impl Stand {
         requires partial { IsOf problem.now partial.now }
         requires goes { GoesWith partial.now.marks self.old.marks }
         requires order { IsOrderOf problem.now order.now }
+
+        // what still holds
         ensures of { IsStandOf problem.now self.new }
         ensures holds { Holds problem.now self.new.marks }
         ensures goes { GoesWith partial.now.marks self.new.marks }
+
+        // what it is worth, and that no place can be bettered
         ensures no_more { left_worth problem.now self.new.marks (length problem.now.items) ≤ left_worth problem.now self.old.marks (length problem.now.items) }
         ensures stuck { (j : ℕ) → mark partial.now.marks j ≡ Mark.Undecided → mark self.new.marks j ≡ Mark.Left → IsStuck problem.now partial.now.marks self.new.marks j }
     {

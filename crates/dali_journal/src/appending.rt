@@ -23,16 +23,24 @@ impl Journal {
     pub fn append<T: Site>(&mut self, site: &mut T, frame: &Sealed) -> Result<(), AppendNo>
         requires at_site { self.old.tail + self.old.left ≡ (T.sight site.old).size }
         requires ended { self.old.ended ≡ true }
+
+        // the disk, at every stop and then
         ensures stops { IsTrue T.tells → (edition : ℕ) (list : List (List ℕ)) → AtRest self.old.tail edition list (T.sight site.old) →
             Appends (is_ok result) self.old.tail edition list (payload_of frame.now ∷ []) frame.now (T.sight site.old) (T.sight site.new) }
         ensures bytes { IsTrue T.tells → OnOk result ((T.sight site.new).bytes ≡ overlay (T.sight site.old).bytes self.old.tail (1 ∷ frame.now)) }
         ensures outside { IsTrue T.tells → StaysOutside self.old.tail (length frame.now + 1) (T.sight site.old) (T.sight site.new) }
+
+        // the journal behind it
         ensures moved { OnOk result (self.new ≡ record self.old { tail = self.old.tail + length frame.now; left = self.old.left - length frame.now }) }
         ensures fits { OnOk result (length frame.now < self.old.left) }
+
+        // what is answered, and when
         ensures full { (need left : ℕ) → IsErrOf result (AppendNo.JournalFull need left) ↔ ((self.old.left < length frame.now + 1) × (need ≡ length frame.now + 1) × (left ≡ self.old.left)) }
         ensures unwritten { self.old.left < length frame.now + 1 → (self.new ≡ self.old) × (T.sight site.new ≡ T.sight site.old) }
         ensures given_up { IsErrOf result AppendNo.DiskFault → self.new ≡ record self.old { ended = false } }
         ensures fault { IsErrOf result AppendNo.DiskFault → Rose (T.sight site.old).disk_faults (T.sight site.new).disk_faults }
+
+        // what stays, and the counts
         ensures silent { IsTrue T.tells → (T.sight site.new).printed ≡ (T.sight site.old).printed }
         ensures goes { Goes (T.sight site.old) (T.sight site.new) }
         ensures syncs { (T.sight site.new).syncs ≤ (T.sight site.old).syncs + 2 }
@@ -54,16 +62,24 @@ impl Journal {
         requires at_site { self.old.tail + self.old.left ≡ (T.sight site.old).size }
         requires ended { self.old.ended ≡ true }
         requires filled { group.now ≢ [] }
+
+        // the disk, at every stop and then
         ensures stops { IsTrue T.tells → (edition : ℕ) (list : List (List ℕ)) → AtRest self.old.tail edition list (T.sight site.old) →
             (frames : List ℕ) × AreFrames group.now frames × (length frames ≡ frames_length group.now) × Appends (is_ok result) self.old.tail edition list group.now frames (T.sight site.old) (T.sight site.new) }
         ensures bytes { IsTrue T.tells → OnOk result ((frames : List ℕ) × AreFrames group.now frames × ((T.sight site.new).bytes ≡ overlay (T.sight site.old).bytes self.old.tail (1 ∷ frames))) }
         ensures outside { IsTrue T.tells → StaysOutside self.old.tail (frames_length group.now + 1) (T.sight site.old) (T.sight site.new) }
+
+        // the journal behind it
         ensures moved { OnOk result (self.new ≡ record self.old { tail = self.old.tail + frames_length group.now; left = self.old.left - frames_length group.now }) }
         ensures fits { OnOk result (frames_length group.now < self.old.left) }
+
+        // what is answered, and when
         ensures full { (need left : ℕ) → IsErrOf result (AppendNo.JournalFull need left) ↔ ((self.old.left < frames_length group.now + 1) × (need ≡ frames_length group.now + 1) × (left ≡ self.old.left)) }
         ensures unwritten { self.old.left < frames_length group.now + 1 → (self.new ≡ self.old) × (T.sight site.new ≡ T.sight site.old) }
         ensures given_up { IsErrOf result AppendNo.DiskFault → self.new ≡ record self.old { ended = false } }
         ensures fault { IsErrOf result AppendNo.DiskFault → Rose (T.sight site.old).disk_faults (T.sight site.new).disk_faults }
+
+        // what stays, and the counts
         ensures silent { IsTrue T.tells → (T.sight site.new).printed ≡ (T.sight site.old).printed }
         ensures goes { Goes (T.sight site.old) (T.sight site.new) }
         ensures syncs { (T.sight site.new).syncs ≤ (T.sight site.old).syncs + 2 }
@@ -75,17 +91,25 @@ impl Journal {
     fn append_frames<T: Site>(&mut self, site: &mut T, frames: &[u8]) -> Result<(), AppendNo>
         requires at_site { self.old.tail + self.old.left ≡ (T.sight site.old).size }
         requires ended { self.old.ended ≡ true }
+
+        // the disk, at every stop and then
         ensures stops { IsTrue T.tells → (edition : ℕ) (list more : List (List ℕ)) → AreFrames more frames.now → AreShort more →
             AtRest self.old.tail edition list (T.sight site.old) →
             Appends (is_ok result) self.old.tail edition list more frames.now (T.sight site.old) (T.sight site.new) }
         ensures bytes { IsTrue T.tells → OnOk result ((T.sight site.new).bytes ≡ overlay (T.sight site.old).bytes self.old.tail (1 ∷ frames.now)) }
         ensures outside { IsTrue T.tells → StaysOutside self.old.tail (length frames.now + 1) (T.sight site.old) (T.sight site.new) }
+
+        // the journal behind it
         ensures moved { OnOk result (self.new ≡ record self.old { tail = self.old.tail + length frames.now; left = self.old.left - length frames.now }) }
         ensures fits { OnOk result (length frames.now < self.old.left) }
+
+        // what is answered, and when
         ensures full { (need left : ℕ) → IsErrOf result (AppendNo.JournalFull need left) ↔ ((self.old.left < length frames.now + 1) × (need ≡ length frames.now + 1) × (left ≡ self.old.left)) }
         ensures unwritten { self.old.left < length frames.now + 1 → (self.new ≡ self.old) × (T.sight site.new ≡ T.sight site.old) }
         ensures given_up { IsErrOf result AppendNo.DiskFault → self.new ≡ record self.old { ended = false } }
         ensures fault { IsErrOf result AppendNo.DiskFault → Rose (T.sight site.old).disk_faults (T.sight site.new).disk_faults }
+
+        // what stays, and the counts
         ensures silent { IsTrue T.tells → (T.sight site.new).printed ≡ (T.sight site.old).printed }
         ensures goes { Goes (T.sight site.old) (T.sight site.new) }
         ensures syncs { (T.sight site.new).syncs ≤ (T.sight site.old).syncs + 2 }
@@ -115,11 +139,15 @@ impl Journal {
 /// Puts frames behind the gate at the tail, and then opens it: two writes, each followed by a sync.
 fn write_behind<T: Site>(site: &mut T, tail: u64, frames: &[u8]) -> Result<(), Failed>
     requires { tail + length frames.now < (T.sight site.old).size }
+
+    // the disk, at every stop and then
     ensures stops { IsTrue T.tells → (edition : ℕ) (list more : List (List ℕ)) → AreFrames more frames.now → AreShort more →
         AtRest tail edition list (T.sight site.old) →
         Appends (is_ok result) tail edition list more frames.now (T.sight site.old) (T.sight site.new) }
     ensures bytes { IsTrue T.tells → OnOk result ((T.sight site.new).bytes ≡ overlay (T.sight site.old).bytes tail (1 ∷ frames.now)) }
     ensures outside { IsTrue T.tells → StaysOutside tail (length frames.now + 1) (T.sight site.old) (T.sight site.new) }
+
+    // what stays, and the counts
     ensures silent { IsTrue T.tells → (T.sight site.new).printed ≡ (T.sight site.old).printed }
     ensures goes { Goes (T.sight site.old) (T.sight site.new) }
     ensures syncs { (T.sight site.new).syncs ≤ (T.sight site.old).syncs + 2 }

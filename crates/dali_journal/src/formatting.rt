@@ -19,11 +19,17 @@ const EMPTY: [u8; 17] = *b"DALI-JOURNAL\0\0\0\x01\0";
 /// bytes in the first 17 places and the old ones behind them. At every answer the bytes behind those stay.
 pub fn format<T: Site>(site: &mut T) -> Result<(), DiskFault>
     requires { least_size ≤ (T.sight site.old).size }
+
+    // the journal that was made
     ensures empty { IsTrue T.tells → OnOk result (AtRest 16 1 [] (T.sight site.new)) }
     ensures images { IsTrue T.tells → OnOk result (EachHolds 1 [] (T.sight site.new)) }
     ensures bytes { IsTrue T.tells → OnOk result ((T.sight site.new).bytes ≡ overlay (T.sight site.old).bytes 0 empty_start) }
+
+    // the disk, at every stop
     ensures torn { IsTrue T.tells → IsFirm (T.sight site.old) → LeavesOnly (Torn (T.sight site.old) 0 17) (T.sight site.old) (T.sight site.new) }
     ensures outside { IsTrue T.tells → StaysOutside 0 17 (T.sight site.old) (T.sight site.new) }
+
+    // what stays, and the counts
     ensures silent { IsTrue T.tells → (T.sight site.new).printed ≡ (T.sight site.old).printed }
     ensures goes { Goes (T.sight site.old) (T.sight site.new) }
     ensures syncs { (T.sight site.new).syncs ≤ (T.sight site.old).syncs + 1 }

@@ -23,6 +23,8 @@ impl Journal {
         site: &mut T,
     ) -> Result<Option<Text>, OpenNo>
         requires at_site { self.old.tail + self.old.left ≡ (T.sight site.old).size }
+
+        // a payload is found, or the end
         ensures found { IsTrue T.tells → IfOk result (λ o. IfSome o (λ payload. Finds payload (T.sight site.old).bytes self.old.tail self.new.tail)) }
         ensures more { IsTrue T.tells → (edition : ℕ) (list : List (List ℕ)) → StandsTo self.old.tail edition list (T.sight site.old).bytes →
             IfOk result (λ o. IfSome o (λ payload. StandsTo self.new.tail edition (list ++ payload ∷ []) (T.sight site.old).bytes)) }
@@ -30,15 +32,21 @@ impl Journal {
         ensures end { IsTrue T.tells → (edition : ℕ) (list : List (List ℕ)) → StandsTo self.old.tail edition list (T.sight site.old).bytes →
             IfOk result (λ o. IfNone o (HoldsAt self.old.tail edition list (T.sight site.old).bytes)) }
         ensures shut { IsTrue T.tells → slice_index (T.sight site.old).bytes self.old.tail ≡ 0 → (result ≡ Ok None) ⊎ (result ≡ Err OpenNo.DiskFault) }
+
+        // the journal behind it
         ensures size { self.new.tail + self.new.left ≡ self.old.tail + self.old.left }
         ensures edition { self.new.edition ≡ self.old.edition }
         ensures moves { IfOk result (λ o. IfSome o (λ payload. self.new ≡ record self.old { tail = self.old.tail + (length payload + 5); left = self.old.left - (length payload + 5); ended = false })) }
         ensures ended { IfOk result (λ o. IfNone o (self.new ≡ record self.old { ended = true })) }
+
+        // what is refused, and when
         ensures damaged { (place : ℕ) (why : Damage) → IsErrOf result (OpenNo.Damaged place why) → (place ≡ self.old.tail) × (why ≡ Damage.Length)
             × (IsTrue T.tells → IsTooLong (T.sight site.old).size self.old.tail (T.sight site.old).bytes) }
         ensures too_long { IsTrue T.tells → IsTooLong (T.sight site.old).size self.old.tail (T.sight site.old).bytes → (IsOk result → ⊥) × (IsErrOf result OpenNo.OutOfMemory → ⊥) }
         ensures fault { IsErrOf result OpenNo.DiskFault → Rose (T.sight site.old).disk_faults (T.sight site.new).disk_faults }
         ensures unmoved { OnErr result (self.new ≡ self.old) }
+
+        // what stays, and the counts
         ensures disk { IsTrue T.tells → SameDisk (T.sight site.old) (T.sight site.new) }
         ensures text { IsTrue T.tells → SameText (T.sight site.old) (T.sight site.new) }
         ensures goes { Goes (T.sight site.old) (T.sight site.new) }
@@ -70,15 +78,21 @@ fn payload_at<T: Site>(
     requires at_site { tail + left ≡ (T.sight site.old).size }
     requires gate { 1 ≤ left }
     requires bound { tail + left < 2 ^ 64 }
+
+    // a payload is found, or the end
     ensures found { IsTrue T.tells → IfOk result (λ o. IfSome o (λ payload. Finds payload (T.sight site.old).bytes tail (tail + (length payload + 5)))) }
     ensures within { IfOk result (λ o. IfSome o (λ payload. length payload + 6 ≤ left)) }
     ensures inside { IsTrue T.tells → tail < length (T.sight site.old).bytes }
     ensures closed { IsTrue T.tells → IfOk result (λ o. IfNone o (slice_index (T.sight site.old).bytes tail ≡ 0)) }
     ensures shut { IsTrue T.tells → slice_index (T.sight site.old).bytes tail ≡ 0 → (result ≡ Ok None) ⊎ (result ≡ Err OpenNo.DiskFault) }
+
+    // what is refused, and when
     ensures damaged { (place : ℕ) (why : Damage) → IsErrOf result (OpenNo.Damaged place why) → (place ≡ tail) × (why ≡ Damage.Length)
         × (IsTrue T.tells → IsTooLong (T.sight site.old).size tail (T.sight site.old).bytes) }
     ensures too_long { IsTrue T.tells → IsTooLong (T.sight site.old).size tail (T.sight site.old).bytes → (IsOk result → ⊥) × (IsErrOf result OpenNo.OutOfMemory → ⊥) }
     ensures fault { IsErrOf result OpenNo.DiskFault → Rose (T.sight site.old).disk_faults (T.sight site.new).disk_faults }
+
+    // what stays, and the counts
     ensures disk { IsTrue T.tells → SameDisk (T.sight site.old) (T.sight site.new) }
     ensures text { IsTrue T.tells → SameText (T.sight site.old) (T.sight site.new) }
     ensures goes { Goes (T.sight site.old) (T.sight site.new) }
@@ -104,7 +118,11 @@ fn payload_at<T: Site>(
 /// Fills the bytes with those of the disk from place `at` on.
 fn fill<T: Site>(site: &mut T, at: u64, into: &mut Vec<u8>) -> Result<(), Failed>
     requires { at + length into.old.items ≤ (T.sight site.old).size }
+
+    // what is read
     ensures given { IsTrue T.tells → OnOk result (into.new.items ≡ slice_range (T.sight site.old).bytes at (at + length into.old.items)) }
+
+    // what stays, and the counts
     ensures disk { IsTrue T.tells → SameDisk (T.sight site.old) (T.sight site.new) }
     ensures text { IsTrue T.tells → SameText (T.sight site.old) (T.sight site.new) }
     ensures len { length into.new.items ≡ length into.old.items }
@@ -133,10 +151,14 @@ fn head_at<T: Site>(site: &mut T, tail: u64, left: u64) -> Result<Head, Failed>
     requires at_site { tail + left ≡ (T.sight site.old).size }
     requires gate { 1 ≤ left }
     requires bound { tail + left < 2 ^ 64 }
+
+    // what stands there
     ensures closed { IsTrue T.tells → IfOk result (λ head. head ≡ Head.Closed → slice_index (T.sight site.old).bytes tail ≡ 0) }
     ensures too_long { IsTrue T.tells → IfOk result (λ head. head ≡ Head.TooLong → IsTooLong (T.sight site.old).size tail (T.sight site.old).bytes) }
     ensures payload { IsTrue T.tells → IfOk result (λ head. (len : ℕ) → head ≡ Head.Payload len → HeadsPayload len tail (T.sight site.old).bytes) }
     ensures within { IfOk result (λ head. (len : ℕ) → head ≡ Head.Payload len → (len + 6 ≤ left) × (len < 2 ^ 32)) }
+
+    // what stays, and the counts
     ensures disk { IsTrue T.tells → SameDisk (T.sight site.old) (T.sight site.new) }
     ensures text { IsTrue T.tells → SameText (T.sight site.old) (T.sight site.new) }
     ensures goes { Goes (T.sight site.old) (T.sight site.new) }

@@ -20,6 +20,8 @@ const FIRST_GATE: u64 = 16;
 /// first 16 bytes are no header (`Header`); the place is 0. `DiskFault` comes only where the count of disk faults rose.
 /// `OutOfMemory` isn't answered. What is read on from here is the one list that an image can hold.
 pub fn open_journal<T: Site>(_alloc: Global, site: &mut T) -> Result<Journal, OpenNo>
+
+    // what is answered, and when
     ensures ok { IfOk result (λ journal. (journal.tail ≡ 16) × (journal.tail + journal.left ≡ (T.sight site.old).size) × (17 ≤ (T.sight site.old).size) × (journal.ended ≡ false)) }
     ensures header { IsTrue T.tells → IfOk result (λ journal. StandsTo journal.tail journal.edition [] (T.sight site.old).bytes) }
     ensures damaged { (place : ℕ) (why : Damage) → IsErrOf result (OpenNo.Damaged place why) → (place ≡ 0)
@@ -28,9 +30,13 @@ pub fn open_journal<T: Site>(_alloc: Global, site: &mut T) -> Result<Journal, Op
     ensures one_list { (image : List ℕ) (edition other : ℕ) (list more : List (List ℕ)) → Holds edition list image → Holds other more image → (edition ≡ other) × (list ≡ more) }
     ensures fault { IsErrOf result OpenNo.DiskFault → Rose (T.sight site.old).disk_faults (T.sight site.new).disk_faults }
     ensures memory { IsErrOf result OpenNo.OutOfMemory → ⊥ }
+
+    // the disk, then and at every stop
     ensures bytes { IsTrue T.tells → (T.sight site.new).bytes ≡ (T.sight site.old).bytes }
     ensures firm { IsTrue T.tells → (IsErrOf result OpenNo.DiskFault → ⊥) → IsFirm (T.sight site.new) }
     ensures stops { IsTrue T.tells → LeavesOnly (MayLeave (now (T.sight site.old))) (T.sight site.old) (T.sight site.new) }
+
+    // what stays, and the counts
     ensures silent { IsTrue T.tells → (T.sight site.new).printed ≡ (T.sight site.old).printed }
     ensures goes { Goes (T.sight site.old) (T.sight site.new) }
     ensures syncs { (T.sight site.new).syncs ≤ (T.sight site.old).syncs + 1 }

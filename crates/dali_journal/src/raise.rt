@@ -19,6 +19,8 @@ impl Journal {
     pub fn raise_edition<T: Site>(&mut self, site: &mut T) -> Result<(), DiskFault>
         requires at_site { self.old.tail + self.old.left ≡ (T.sight site.old).size }
         requires below { self.old.edition < newest_edition }
+
+        // the disk, at every stop and then
         ensures stops { IsTrue T.tells → (tail : ℕ) (list : List (List ℕ)) → AtRest tail self.old.edition list (T.sight site.old) →
             LeavesOnly (EitherEdition tail self.old.edition list (T.sight site.old).printed) (T.sight site.old) (T.sight site.new) }
         ensures raised { IsTrue T.tells → (tail : ℕ) (list : List (List ℕ)) → AtRest tail self.old.edition list (T.sight site.old) →
@@ -27,8 +29,12 @@ impl Journal {
             OnOk result (EachHolds (self.old.edition + 1) list (T.sight site.new)) }
         ensures bytes { IsTrue T.tells → OnOk result ((T.sight site.new).bytes ≡ overlay (T.sight site.old).bytes (11 + self.old.edition) (1 ∷ [])) }
         ensures outside { IsTrue T.tells → StaysOutside (11 + self.old.edition) 1 (T.sight site.old) (T.sight site.new) }
+
+        // the journal behind it
         ensures edition { OnOk result (self.new ≡ record self.old { edition = self.old.edition + 1 }) }
         ensures same { OnErr result (self.new ≡ self.old) }
+
+        // what stays, and the counts
         ensures silent { IsTrue T.tells → (T.sight site.new).printed ≡ (T.sight site.old).printed }
         ensures goes { Goes (T.sight site.old) (T.sight site.new) }
         ensures syncs { (T.sight site.new).syncs ≤ (T.sight site.old).syncs + 1 }

@@ -175,6 +175,8 @@ impl Kept {
             ≡ sum_with problem.now self.old.marks self.old.multipliers line to
             -ℤ sum_with problem.now self.old.marks self.old.multipliers line (slice_index self.old.multipliers line) }
         requires rise_bounded { Within (2 ^ 116) rise.now }
+
+        // what it has become
         ensures marks { self.new.marks ≡ self.old.marks }
         ensures multipliers { self.new.multipliers ≡ slice_set self.old.multipliers line to }
         ensures of { IsSumOf problem.now self.new }

@@ -76,6 +76,8 @@ pub(crate) fn add_rises(
     requires reduced { All (Within (2 ^ 103)) reduced.now }
     requires from { Within most_multiplier from.now }
     requires to { Within most_multiplier to.now }
+
+    // the sum, and its bound
     ensures exact { total.new ≡ total.old +ℤ sum_over (touch_rise marks.now reduced.now from.now to.now) touches.now }
     ensures bounded { Within (2 ^ 116) total.new }
 {

@@ -70,12 +70,18 @@ impl Block {
     pub(crate) fn fill<S: Source>(&mut self, source: &mut S, most: usize) -> Result<usize, Failed>
         requires empty { self.old ≡ [] }
         requires most { 0 < most }
+
+        // what is given
         ensures amount { IfOk result (λ n. length self.new ≡ n) }
         ensures bounded { IfOk result (λ n. n ≤ most) }
         ensures moved { IsTrue S.tells → IfOk result (λ n. (S.feed source.old).left ≡ self.new ++ (S.feed source.new).left) }
         ensures ends { IsTrue S.tells → IfOk result (λ n. n ≡ 0 → (S.feed source.old).left ≡ []) }
+
+        // where it fails
         ensures kept { IsTrue S.tells → OnErr result ((S.feed source.new).left ≡ (S.feed source.old).left) }
         ensures none { OnErr result (self.new ≡ []) }
+
+        // the count of the faults
         ensures faults { (S.feed source.old).faults ≤ (S.feed source.new).faults }
         ensures quiet { OnOk result ((S.feed source.new).faults ≡ (S.feed source.old).faults) }
         ensures failed { OnErr result (Rose (S.feed source.old).faults (S.feed source.new).faults) }
@@ -91,11 +97,17 @@ impl Block {
 fn pull<S: Source>(source: &mut S, bytes: &mut [u8], most: usize) -> Result<usize, Failed>
     requires most { 0 < most }
     requires room { most ≤ length bytes.old }
+
+    // what is given
     ensures length { length bytes.new ≡ length bytes.old }
     ensures bounded { IfOk result (λ n. n ≤ most) }
     ensures moved { IsTrue S.tells → IfOk result (λ n. (S.feed source.old).left ≡ take n bytes.new ++ (S.feed source.new).left) }
     ensures ends { IsTrue S.tells → IfOk result (λ n. n ≡ 0 → (S.feed source.old).left ≡ []) }
+
+    // where it fails
     ensures kept { IsTrue S.tells → OnErr result ((S.feed source.new).left ≡ (S.feed source.old).left) }
+
+    // the count of the faults
     ensures faults { (S.feed source.old).faults ≤ (S.feed source.new).faults }
     ensures quiet { OnOk result ((S.feed source.new).faults ≡ (S.feed source.old).faults) }
     ensures failed { OnErr result (Rose (S.feed source.old).faults (S.feed source.new).faults) }

@@ -66,8 +66,12 @@ impl Lines {
         ensures some { self.old.over ≡ false → IfOk result (λ o. IfSome o (λ line. Gives S.tells line self.old self.new (S.feed source.old) (S.feed source.new))) }
         ensures none { self.old.over ≡ false → IfOk result (λ o. IfNone o (Ends S.tells self.old self.new (S.feed source.old) (S.feed source.new))) }
         ensures stops { IfErr result (Stops S.tells (self.old.given + 1) (reached self.old (S.feed source.old)) (reached self.new (S.feed source.new))) }
+
+        // the count of the faults, and the end that they bring
         ensures quiet { result ≢ Err LineEnd.ReadFault → (S.feed source.new).faults ≡ (S.feed source.old).faults }
         ensures failed { result ≡ Err LineEnd.ReadFault → Rose (S.feed source.old).faults (S.feed source.new).faults }
+
+        // what comes behind an end, and the limit
         ensures ended { OnErr result (self.new.over ≡ true) }
         ensures faults { (S.feed source.old).faults ≤ (S.feed source.new).faults }
         ensures bounded { self.new.given ≤ most_file }

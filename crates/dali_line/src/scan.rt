@@ -37,11 +37,17 @@ pub(crate) fn read_command<S: Source>(
 ) -> Result<Found, LineEnd>
     requires line { line.old ≡ nothing_open }
     requires taken { taken.old ≤ most_file }
+
+    // what is answered
     ensures found { IfOk result (Finds S.tells (reach block.old taken.old (S.feed source.old)) (reach block.new taken.new (S.feed source.new))) }
     ensures stops { IfErr result (Stops S.tells number (reach block.old taken.old (S.feed source.old)) (reach block.new taken.new (S.feed source.new))) }
+
+    // the count of the faults
     ensures faults { (S.feed source.old).faults ≤ (S.feed source.new).faults }
     ensures quiet { result ≢ Err LineEnd.ReadFault → (S.feed source.new).faults ≡ (S.feed source.old).faults }
     ensures failed { result ≡ Err LineEnd.ReadFault → Rose (S.feed source.old).faults (S.feed source.new).faults }
+
+    // how much is taken
     ensures within { taken.new ≤ most_file }
     ensures counted { taken.old + length block.new ≤ taken.new + length block.old }
 {
@@ -80,11 +86,17 @@ fn step<S: Source>(
     number: u64,
 ) -> Result<Turn, LineEnd>
     requires taken { taken.old ≤ most_file }
+
+    // what is answered
     ensures steps { (old : Reach) → Midway S.tells old line.old (reach block.old taken.old (S.feed source.old)) → IfOk result (Steps S.tells old line.new (reach block.new taken.new (S.feed source.new))) }
     ensures stops { (old : Reach) → Midway S.tells old line.old (reach block.old taken.old (S.feed source.old)) → IfErr result (Stops S.tells number old (reach block.new taken.new (S.feed source.new))) }
+
+    // the count of the faults
     ensures faults { (S.feed source.old).faults ≤ (S.feed source.new).faults }
     ensures quiet { result ≢ Err LineEnd.ReadFault → (S.feed source.new).faults ≡ (S.feed source.old).faults }
     ensures failed { result ≡ Err LineEnd.ReadFault → Rose (S.feed source.old).faults (S.feed source.new).faults }
+
+    // how much is taken, and what becomes less
     ensures within { taken.new ≤ most_file }
     ensures counted { taken.old + length block.new ≤ taken.new + length block.old }
     ensures shorter { IfOk result (λ turn. NotAtEnd turn → 2 * (most_file - taken.new) + length block.new < 2 * (most_file - taken.old) + length block.old) }
@@ -113,12 +125,16 @@ fn refill<S: Source>(
 ) -> Result<bool, LineEnd>
     requires block { block.old ≡ [] }
     requires taken { taken.old ≤ most_file }
+
+    // what is answered
     ensures more { (old : Reach) → Midway S.tells old line.old (reach block.old taken.old (S.feed source.old)) → OnOk result (Midway S.tells old line.new (reach block.new taken.new (S.feed source.new))) }
     ensures some { IfOk result (λ more. more ≡ true → 0 < length block.new) }
     ensures counted { taken.new ≡ taken.old + length block.new }
     ensures within { taken.new ≤ most_file }
     ensures end { IfOk result (λ more. more ≡ false → (block.new ≡ []) × (IsTrue S.tells → (S.feed source.new).left ≡ [])) }
     ensures stops { (old : Reach) → Midway S.tells old line.old (reach block.old taken.old (S.feed source.old)) → IfErr result (Stops S.tells number old (reach block.new taken.new (S.feed source.new))) }
+
+    // the count of the faults
     ensures faults { (S.feed source.old).faults ≤ (S.feed source.new).faults }
     ensures quiet { result ≢ Err LineEnd.ReadFault → (S.feed source.new).faults ≡ (S.feed source.old).faults }
     ensures failed { result ≡ Err LineEnd.ReadFault → Rose (S.feed source.old).faults (S.feed source.new).faults }

@@ -176,12 +176,16 @@ impl Site for MemSite {
 
     fn read(&mut self, at: u64, into: &mut [u8]) -> Result<(), Failed>
         requires { at + length into.old ≤ self.old.sight.size }
+
+        // what is promised of every site
         ensures given { OnOk result (into.new ≡ slice_range self.old.sight.bytes at (at + length into.old)) }
         ensures disk { SameDisk self.old.sight self.new.sight }
         ensures text { SameText self.old.sight self.new.sight }
         ensures goes { Goes self.old.sight self.new.sight }
         ensures syncs { self.new.sight.syncs ≤ self.old.sight.syncs }
         ensures failed { OnErr result (Rose self.old.sight.disk_faults self.new.sight.disk_faults) }
+
+        // what this one does, and when
         ensures listed { is_ok result ≡ not (beyond_calls self.old || is_some (fault_of self.old 0)) }
         ensures after { self.new ≡ board_at self.old (sight_read self.old.sight (not (is_ok result))) self.old.written }
         ensures untouched { OnErr result (into.new ≡ into.old) }
@@ -199,11 +203,15 @@ impl Site for MemSite {
 
     fn write(&mut self, at: u64, piece: &[u8]) -> Result<(), Failed>
         requires { at + length piece.now ≤ self.old.sight.size }
+
+        // what is promised of every site
         ensures disk { Writes (is_ok result) at piece.now self.old.sight self.new.sight }
         ensures text { SameText self.old.sight self.new.sight }
         ensures goes { Goes self.old.sight self.new.sight }
         ensures syncs { self.new.sight.syncs ≤ self.old.sight.syncs }
         ensures failed { OnErr result (Rose self.old.sight.disk_faults self.new.sight.disk_faults) }
+
+        // what this one does, and when
         ensures listed { is_ok result ≡ not (beyond_written self.old (length piece.now) || is_some (fault_of self.old (length piece.now))) }
         ensures beyond { beyond_written self.old (length piece.now) ≡ true → self.new ≡ board_at self.old (sight_loosened self.old.sight at (length piece.now)) self.old.written }
         ensures whole { OnOk result (self.new ≡ board_at self.old (sight_written self.old.sight false at piece.now) (self.old.written + length piece.now)) }
@@ -219,12 +227,16 @@ impl Site for MemSite {
     }
 
     fn sync(&mut self) -> Result<(), Failed>
+
+        // what is promised of every site
         ensures firm { OnOk result (Syncs self.old.sight self.new.sight) }
         ensures disk { OnErr result (SameDisk self.old.sight self.new.sight) }
         ensures text { OnErr result (SameText self.old.sight self.new.sight) }
         ensures goes { Goes self.old.sight self.new.sight }
         ensures syncs { self.new.sight.syncs ≤ self.old.sight.syncs + 1 }
         ensures failed { OnErr result (Rose self.old.sight.disk_faults self.new.sight.disk_faults) }
+
+        // what this one does, and when
         ensures listed { is_ok result ≡ not (beyond_calls self.old || is_some (fault_of self.old 0)) }
         ensures whole { OnOk result (self.new ≡ board_at self.old (sight_synced self.old.sight) self.old.written) }
         ensures unsynced { OnErr result (self.new ≡ board_at self.old (sight_unsynced self.old.sight) self.old.written) }
@@ -241,11 +253,15 @@ impl Site for MemSite {
     }
 
     fn put(&mut self, piece: &[u8]) -> Result<(), Failed>
+
+        // what is promised of every site
         ensures text { Prints (is_ok result) piece.now self.old.sight self.new.sight }
         ensures disk { SameDisk self.old.sight self.new.sight }
         ensures goes { Goes self.old.sight self.new.sight }
         ensures syncs { self.new.sight.syncs ≤ self.old.sight.syncs }
         ensures failed { OnErr result (Rose self.old.sight.print_faults self.new.sight.print_faults) }
+
+        // what this one does, and when
         ensures listed { is_ok result ≡ not (beyond_text self.old (length piece.now) || is_some (fault_of self.old (length piece.now))) }
         ensures beyond { beyond_text self.old (length piece.now) ≡ true → self.new ≡ board_at self.old (sight_printed self.old.sight true []) self.old.written }
         ensures whole { OnOk result (self.new ≡ board_at self.old (sight_printed self.old.sight false piece.now) self.old.written) }
@@ -266,10 +282,14 @@ fn lay(tape: &mut Tape, beyond_calls: bool, fault: Option<usize>, at: usize, pie
     requires within { at + length piece.now ≤ length tape.old.bytes }
     requires fault { IfSome fault (λ n. n ≤ length piece.now) }
     requires steps { beyond_calls ≡ false → tape.old.steps < tape.old.step_room }
+
+    // what is done, and when
     ensures works { result ≡ not (beyond_calls || nat_lt tape.old.replaced_room (tape.old.replaced + length piece.now) || is_some fault) }
     ensures beyond { (beyond_calls || nat_lt tape.old.replaced_room (tape.old.replaced + length piece.now)) ≡ true → tape.new ≡ reel_loosened tape.old beyond_calls at (length piece.now) }
     ensures whole { IsTrue result → tape.new ≡ reel_written tape.old at piece.now }
     ensures begun { (beyond_calls || nat_lt tape.old.replaced_room (tape.old.replaced + length piece.now)) ≡ false → IfSome fault (λ n. tape.new ≡ reel_written tape.old at (torn piece.now n)) }
+
+    // what every site promises of it
     ensures laid { Lays result at piece.now tape.old tape.new }
 {
     let len = piece.len();
@@ -298,10 +318,14 @@ fn say(tape: &mut Tape, beyond_calls: bool, fault: Option<usize>, piece: &[u8]) 
     requires fault { IfSome fault (λ n. n ≤ length piece.now) }
     requires noted { beyond_calls ≡ false → tape.old.noted ≡ true }
     requires steps { beyond_calls ≡ false → tape.old.steps < tape.old.step_room }
+
+    // what is done, and when
     ensures works { result ≡ not (beyond_calls || nat_lt tape.old.text_room (length tape.old.text + length piece.now) || is_some fault) }
     ensures beyond { (beyond_calls || nat_lt tape.old.text_room (length tape.old.text + length piece.now)) ≡ true → tape.new ≡ tape.old }
     ensures whole { IsTrue result → tape.new ≡ reel_printed tape.old piece.now }
     ensures begun { (beyond_calls || nat_lt tape.old.text_room (length tape.old.text + length piece.now)) ≡ false → IfSome fault (λ n. tape.new ≡ reel_printed tape.old (take n piece.now)) }
+
+    // what every site promises of it
     ensures said { Says result piece.now tape.old tape.new }
 {
     if beyond_calls || tape.lacks_text_room(piece.len()) {

@@ -72,6 +72,8 @@ impl Source for MemSource {
         ensures faults { self.old.feed.faults ≤ self.new.feed.faults }
         ensures quiet { OnOk result (self.new.feed.faults ≡ self.old.feed.faults) }
         ensures failed { OnErr result (Rose self.old.feed.faults self.new.feed.faults) }
+
+        // what this one gives, and when
         ensures listed { is_ok result ≡ not (take_fails self.old) }
         ensures amount { IfOk result (λ n. n ≡ given self.old (length into.old)) }
         ensures moved { IfOk result (λ n. self.new ≡ supply_moved self.old n) }

@@ -50,6 +50,8 @@ fn number(
     requires numbered { AreNumbered problem.now flood.old.classes.items flood.old.seen.items place count }
     requires idle { flood.old.pending.items ≡ [] }
     requires few { count ≤ place }
+
+    // what is numbered then
     ensures numbered { IfOk result (λ next. AreNumbered problem.now flood.new.classes.items flood.new.seen.items (place + 1) next) }
     ensures idle { OnOk result (flood.new.pending.items ≡ []) }
     ensures few { IfOk result (λ next. next ≤ place + 1) }

@@ -46,6 +46,8 @@ impl Flood {
         requires start { start < length problem.now.items }
         requires free { class_at self.old.classes.items start ≡ None }
         requires fresh { (j : ℕ) → class_at self.old.classes.items j ≢ Some class }
+
+        // what is reached then
         ensures flooding { OnOk result (IsFlooding problem.now 0 self.new.classes.items self.new.seen.items []) }
         ensures idle { OnOk result (self.new.pending.items ≡ []) }
         ensures grows { OnOk result (Grows class self.old.classes.items self.new.classes.items) }

@@ -56,6 +56,8 @@ fn joined(
     requires finest { AreFinest problem.now lists.now }
     requires size { length chosen.old ≡ length problem.now.items }
     requires free { AreFree lists.now 0 chosen.old }
+
+    // the choice that is answered
     ensures fits { IfOk result (λ choice. Fits (length problem.now.items) (length problem.now.lines) choice) }
     ensures allowed { IfOk result (λ choice. Allowed problem.now budget choice) }
     ensures finest { IfOk result (λ choice. AreFinest problem.now (map (λ (part : Part). part.members) choice.parts)) }
@@ -108,7 +110,11 @@ fn search_one(
     requires members { IsClass problem.now members.now }
     requires size { length chosen.old ≡ length problem.now.items }
     requires free { (j : ℕ) → Contains members.now j → slice_index_or chosen.old j false ≡ false }
+
+    // the part that is answered
     ensures searched { IfOk result (λ part. IsSearched problem.now budget members.now chosen.new part) }
+
+    // what is chosen then
     ensures others { (j : ℕ) → ¬ (Contains members.now j) → slice_index_or chosen.new j false ≡ slice_index_or chosen.old j false }
     ensures size { length chosen.new ≡ length chosen.old }
     ensures within { IfOk result (λ part. branch_count part.tree ≤ budget) }

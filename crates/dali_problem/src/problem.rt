@@ -78,6 +78,8 @@ impl Problem {
         requires value_high { value ≤ most_worth }
         requires total { sum_by (λ item. item.value) self.old.items + value ≤ most_worths }
         requires effects { AreEffects (length self.old.lines) effects.now }
+
+        // what is answered, and the problem then
         ensures place { IfOk result (λ at. at ≡ length self.old.items) }
         ensures added { OnOk result (self.new
             ≡ record self.old {

@@ -1,11 +1,12 @@
-use Rattle.std.specs.Prelude.{ℕ}
+use Rattle.std.specs.Prelude.{ℕ, ◌-◌}
+use Rattle.dali_base.specs.Spelling.{DAY}
 use Rattle.dali_base.specs.declared.kind.Kind.{Kind}
 use Rattle.dali_base.specs.declared.kind.Kind.TheVariants.{Dvp, Fop, Pay}
 use Rattle.dali_queue.specs.declared.cutoffs.Cutoffs.{Cutoffs}
 
 -- the last moment of a day, 235959, at which each cut-off starts
 abbrev pub LAST : ℕ
-LAST = 86399
+LAST = DAY - 1
 
 -- the cut-off of a kind
 abbrev pub cutoff_of : Cutoffs → Kind → ℕ

@@ -77,9 +77,13 @@ impl Queue {
         requires few { length self.old.queue.waiting < most_queued }
         requires item { IsInstruction item }
         requires rank { item.rank ≡ 1 }
+
+        // the queue then
         ensures ok { OnOk result (self.new.queue ≡ entered self.old.queue item) }
         ensures alone { OnOk result (EntersAlone self.old.queue.waiting self.new.queue.waiting item.id) }
         ensures err { OnErr result (self.new.queue ≡ self.old.queue) }
+
+        // want of memory, and what was taken in advance
         ensures spare { 0 < self.old.spare → IsOk result }
         ensures room { self.old.spare ≤ self.new.spare + 1 }
     {

@@ -28,6 +28,8 @@ use std::alloc::Global;
 /// with the first place that is wrong, and what is first wrong there. `DiskFault` comes only where the count of disk
 /// faults rose. A length is compared with the size before memory is taken for it.
 pub fn recover<T: Site>(alloc: Global, site: &mut T) -> Result<Found, RecoverNo>
+
+    // what is answered, and when
     ensures found { IfOk result (IsFound (T.sight site.old).size) }
     ensures rests { IsTrue T.tells → IfOk result (λ found. RestsWith found (T.sight site.new)) }
     ensures damaged { IsTrue T.tells → (place : ℕ) (why : Damage) → IsErrOf result (RecoverNo.Damaged place why) → DamagedAt (T.sight site.old).bytes place why }
@@ -37,9 +39,13 @@ pub fn recover<T: Site>(alloc: Global, site: &mut T) -> Result<Found, RecoverNo>
         MatchResult result (λ found. ⊥) (λ e. (e ≡ RecoverNo.Damaged place why) ⊎ IsWant e) }
     ensures one_history { (image : List ℕ) (history other : List EntryRecord) → Spells image history → Spells image other → history ≡ other }
     ensures fault { IsErrOf result RecoverNo.DiskFault → Rose (T.sight site.old).disk_faults (T.sight site.new).disk_faults }
+
+    // the disk, then and at every stop
     ensures bytes { IsTrue T.tells → (T.sight site.new).bytes ≡ (T.sight site.old).bytes }
     ensures firm { IsTrue T.tells → (IsErrOf result RecoverNo.DiskFault → ⊥) → IsFirm (T.sight site.new) }
     ensures stops { IsTrue T.tells → LeavesOnly (MayLeave (now (T.sight site.old))) (T.sight site.old) (T.sight site.new) }
+
+    // what stays, and the counts
     ensures silent { IsTrue T.tells → (T.sight site.new).printed ≡ (T.sight site.old).printed }
     ensures goes { Goes (T.sight site.old) (T.sight site.new) }
     ensures syncs { (T.sight site.new).syncs ≤ (T.sight site.old).syncs + 1 }
@@ -49,13 +55,19 @@ pub fn recover<T: Site>(alloc: Global, site: &mut T) -> Result<Found, RecoverNo>
 
 /// Opens the journal and reads its records up to its closed gate.
 fn read_device<T: Site>(alloc: Global, site: &mut T) -> Result<Found, RecoverNo>
+
+    // what is answered, and when
     ensures found { IfOk result (IsFound (T.sight site.old).size) }
     ensures rests { IsTrue T.tells → IfOk result (λ found. RestsWith found (T.sight site.new)) }
     ensures damaged { IsTrue T.tells → (place : ℕ) (why : Damage) → IsErrOf result (RecoverNo.Damaged place why) → DamagedAt (T.sight site.old).bytes place why }
     ensures fault { IsErrOf result RecoverNo.DiskFault → Rose (T.sight site.old).disk_faults (T.sight site.new).disk_faults }
+
+    // the disk, then and at every stop
     ensures bytes { IsTrue T.tells → (T.sight site.new).bytes ≡ (T.sight site.old).bytes }
     ensures firm { IsTrue T.tells → (IsErrOf result RecoverNo.DiskFault → ⊥) → IsFirm (T.sight site.new) }
     ensures stops { IsTrue T.tells → LeavesOnly (MayLeave (now (T.sight site.old))) (T.sight site.old) (T.sight site.new) }
+
+    // what stays, and the counts
     ensures silent { IsTrue T.tells → (T.sight site.new).printed ≡ (T.sight site.old).printed }
     ensures goes { Goes (T.sight site.old) (T.sight site.new) }
     ensures syncs { (T.sight site.new).syncs ≤ (T.sight site.old).syncs + 1 }
@@ -73,10 +85,14 @@ fn read_history<T: Site>(alloc: Global, site: &mut T, journal: Journal) -> Resul
     requires at_site { journal.tail + journal.left ≡ (T.sight site.old).size }
     requires first { journal.tail ≡ 16 }
     requires opened { IsTrue T.tells → ReadsTo 16 journal.edition [] (T.sight site.old).bytes }
+
+    // what is answered, and when
     ensures found { IfOk result (IsFound (T.sight site.old).size) }
     ensures holds { IsTrue T.tells → IfOk result (λ found. HoldsAt found.journal.tail found.journal.edition (records_of found.entries) (T.sight site.old).bytes) }
     ensures damaged { IsTrue T.tells → (place : ℕ) (why : Damage) → IsErrOf result (RecoverNo.Damaged place why) → DamagedAt (T.sight site.old).bytes place why }
     ensures fault { IsErrOf result RecoverNo.DiskFault → Rose (T.sight site.old).disk_faults (T.sight site.new).disk_faults }
+
+    // what stays, and the counts
     ensures quiet { Quiet T.tells (T.sight site.old) (T.sight site.new) }
 {
     let mut found = Found {
@@ -103,13 +119,21 @@ fn take_next<T: Site>(
     requires stand { IsTrue T.tells → StandFrom window.now.from window.now.bytes.items (T.sight site.old).bytes }
     requires read { IsReadTo (T.sight site.old).size found.old }
     requires reads { IsTrue T.tells → ReadsTo found.old.journal.tail found.old.journal.edition found.old.entries (T.sight site.old).bytes }
+
+    // where there may be more
     ensures read { IfOk result (λ more. IsTrue more → IsReadTo (T.sight site.old).size found.new) }
     ensures reads { IsTrue T.tells → IfOk result (λ more. IsTrue more → ReadsTo found.new.journal.tail found.new.journal.edition found.new.entries (T.sight site.old).bytes) }
     ensures shorter { IfOk result (λ more. IsTrue more → found.new.journal.left < found.old.journal.left) }
+
+    // at the end
     ensures found { IfOk result (λ more. more ≡ false → IsFound (T.sight site.old).size found.new) }
     ensures holds { IsTrue T.tells → IfOk result (λ more. more ≡ false → HoldsAt found.new.journal.tail found.new.journal.edition (records_of found.new.entries) (T.sight site.old).bytes) }
+
+    // what is refused, and when
     ensures damaged { IsTrue T.tells → (place : ℕ) (why : Damage) → IsErrOf result (RecoverNo.Damaged place why) → DamagedAt (T.sight site.old).bytes place why }
     ensures fault { IsErrOf result RecoverNo.DiskFault → Rose (T.sight site.old).disk_faults (T.sight site.new).disk_faults }
+
+    // what stays, and the counts
     ensures quiet { Quiet T.tells (T.sight site.old) (T.sight site.new) }
 {
     // Called for its clause alone: a site that tells has a byte for each place.

@@ -66,11 +66,15 @@ fn take_entry(
     entries: &mut Entries,
 ) -> Result<(), Denial>
     requires few { state.old.machine.commands < 2 ^ 63 }
+
+    // where the entry is taken
     ensures choice { OnOk result (HasItsChoice state.old.machine (judged entry.edition state.old.machine entry.line) entry.choice) }
     ensures entries { OnOk result (entries.new ≡ entries.old ++ entry ∷ []) }
     ensures state { OnOk result (state.new.machine ≡ after_entry state.old.machine entry) }
     ensures counted { OnOk result (state.new.machine.commands ≡ state.old.machine.commands + 1) }
     ensures reported { OnOk result (IsReported (step entry.edition state.old.machine entry.line entry.choice).outcome) }
+
+    // where it is denied
     ensures denied { IfErr result (λ e. e ≡ Denial.Illegal → HasItsChoice state.old.machine (judged entry.edition state.old.machine entry.line) entry.choice → ⊥) }
     ensures judged { IfErr result (λ e. e ≡ Denial.Entry → ⊥) }
 {

@@ -115,19 +115,27 @@ pub(crate) fn next_record<T: Site>(
 ) -> Result<Option<Text>, OpenNo>
     requires at_site { journal.old.tail + journal.old.left ≡ (T.sight site.old).size }
     requires stand { IsTrue T.tells → StandFrom window.now.from window.now.bytes.items (T.sight site.old).bytes }
+
+    // a payload is found, or the end
     ensures found { IsTrue T.tells → IfOk result (λ o. IfSome o (λ payload. Finds payload (T.sight site.old).bytes journal.old.tail journal.new.tail)) }
     ensures more { IsTrue T.tells → (edition : ℕ) (list : List (List ℕ)) → StandsTo journal.old.tail edition list (T.sight site.old).bytes →
         IfOk result (λ o. IfSome o (λ payload. StandsTo journal.new.tail edition (list ++ payload ∷ []) (T.sight site.old).bytes)) }
     ensures end { IsTrue T.tells → (edition : ℕ) (list : List (List ℕ)) → StandsTo journal.old.tail edition list (T.sight site.old).bytes →
         IfOk result (λ o. IfNone o (HoldsAt journal.old.tail edition list (T.sight site.old).bytes)) }
+
+    // the journal behind it
     ensures size { journal.new.tail + journal.new.left ≡ journal.old.tail + journal.old.left }
     ensures edition { journal.new.edition ≡ journal.old.edition }
     ensures moves { IfOk result (λ o. IfSome o (λ payload. journal.new ≡ record journal.old { tail = journal.old.tail + (length payload + 5); left = journal.old.left - (length payload + 5); ended = false })) }
     ensures ended { IfOk result (λ o. IfNone o (journal.new ≡ record journal.old { ended = true })) }
+
+    // what is refused, and when
     ensures damaged { (place : ℕ) (why : Damage) → IsErrOf result (OpenNo.Damaged place why) → (place ≡ journal.old.tail) × (why ≡ Damage.Length)
         × (IsTrue T.tells → IsTooLong (T.sight site.old).size journal.old.tail (T.sight site.old).bytes) }
     ensures too_long { IsTrue T.tells → IsTooLong (T.sight site.old).size journal.old.tail (T.sight site.old).bytes → IsOk result → ⊥ }
     ensures fault { IsErrOf result OpenNo.DiskFault → Rose (T.sight site.old).disk_faults (T.sight site.new).disk_faults }
+
+    // what stays, and the counts
     ensures quiet { Quiet T.tells (T.sight site.old) (T.sight site.new) }
 {
     match next_in(alloc, site, window, journal) {
@@ -145,15 +153,21 @@ fn next_in<T: Site>(
 ) -> Result<Option<Text>, OpenNo>
     requires at_site { journal.old.tail + journal.old.left ≡ (T.sight site.now).size }
     requires stand { IsTrue T.tells → StandFrom window.now.from window.now.bytes.items (T.sight site.now).bytes }
+
+    // a payload is found, or the end
     ensures found { IsTrue T.tells → IfOk result (λ o. IfSome o (λ payload. Finds payload (T.sight site.now).bytes journal.old.tail journal.new.tail)) }
     ensures more { IsTrue T.tells → (edition : ℕ) (list : List (List ℕ)) → StandsTo journal.old.tail edition list (T.sight site.now).bytes →
         IfOk result (λ o. IfSome o (λ payload. StandsTo journal.new.tail edition (list ++ payload ∷ []) (T.sight site.now).bytes)) }
     ensures end { IsTrue T.tells → (edition : ℕ) (list : List (List ℕ)) → StandsTo journal.old.tail edition list (T.sight site.now).bytes →
         IfOk result (λ o. IfNone o (HoldsAt journal.old.tail edition list (T.sight site.now).bytes)) }
+
+    // the journal behind it
     ensures size { journal.new.tail + journal.new.left ≡ journal.old.tail + journal.old.left }
     ensures edition { journal.new.edition ≡ journal.old.edition }
     ensures moves { IfOk result (λ o. IfSome o (λ payload. journal.new ≡ record journal.old { tail = journal.old.tail + (length payload + 5); left = journal.old.left - (length payload + 5); ended = false })) }
     ensures ended { IfOk result (λ o. IfNone o (journal.new ≡ record journal.old { ended = true })) }
+
+    // what is refused, and when
     ensures damaged { (place : ℕ) (why : Damage) → IsErrOf result (OpenNo.Damaged place why) → (place ≡ journal.old.tail) × (why ≡ Damage.Length)
         × (IsTrue T.tells → IsTooLong (T.sight site.now).size journal.old.tail (T.sight site.now).bytes) }
     ensures too_long { IsTrue T.tells → IsTooLong (T.sight site.now).size journal.old.tail (T.sight site.now).bytes → IsOk result → ⊥ }

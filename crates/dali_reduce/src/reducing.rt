@@ -26,15 +26,23 @@ use std::alloc::Global;
 /// For each feasible set that agreed before, some feasible set agrees afterwards that is worth as much or more.
 pub fn reduce(alloc: Global, problem: &Problem, partial: &mut Partial) -> Result<Fixes, OutOfMemory>
     requires { IsOf problem.now partial.old }
+
+    // what the places are then
     ensures of { IsOf problem.now partial.new }
     ensures done { OnOk result (IsDone problem.now partial.new.marks) }
+
+    // the fixes that led there
     ensures taken { IfOk result (λ fixes. after problem.now fixes partial.old.marks ≡ Some partial.new.marks) }
     ensures back { IfOk result (λ fixes. undone fixes partial.new.marks ≡ partial.old.marks) }
     ensures fit { IfOk result (λ fixes. list_all (fix_fits (length problem.now.items) (length problem.now.lines)) fixes ≡ true) }
     ensures few { IfOk result (λ fixes. length fixes ≤ most_fixes) }
     ensures counted { IfOk result (λ fixes. undecided_count partial.new.marks + length fixes ≡ undecided_count partial.old.marks) }
+
+    // what that means
     ensures more { OnOk result (DecidesMore partial.old.marks partial.new.marks) }
     ensures worth { OnOk result (KeepsWorth problem.now partial.old.marks partial.new.marks) }
+
+    // at want of memory
     ensures err { OnErr result (partial.new ≡ partial.old) }
 {
     let _items = problem.items();
@@ -62,15 +70,23 @@ pub fn reduce_after(
     requires columns { AreColumns problem.now columns.now }
     requires decided { IsTrue (is_decided (mark partial.old.marks place)) }
     requires reduced { IsReduced problem.now (slice_set partial.old.marks place Undecided) }
+
+    // what the places are then
     ensures of { IsOf problem.now partial.new }
     ensures done { OnOk result (IsDone problem.now partial.new.marks) }
+
+    // the fixes that led there
     ensures taken { IfOk result (λ fixes. after problem.now fixes partial.old.marks ≡ Some partial.new.marks) }
     ensures back { IfOk result (λ fixes. undone fixes partial.new.marks ≡ partial.old.marks) }
     ensures fit { IfOk result (λ fixes. list_all (fix_fits (length problem.now.items) (length problem.now.lines)) fixes ≡ true) }
     ensures few { IfOk result (λ fixes. length fixes ≤ most_fixes) }
     ensures counted { IfOk result (λ fixes. undecided_count partial.new.marks + length fixes ≡ undecided_count partial.old.marks) }
+
+    // what that means
     ensures more { OnOk result (DecidesMore partial.old.marks partial.new.marks) }
     ensures worth { OnOk result (KeepsWorth problem.now partial.old.marks partial.new.marks) }
+
+    // at want of memory
     ensures err { OnErr result (partial.new ≡ partial.old) }
 {
     let _items = problem.items();
@@ -118,6 +134,8 @@ fn settle_after(
     requires none { fixes.old ≡ [] }
     requires decided { IsTrue (is_decided (mark partial.old.marks place)) }
     requires reduced { IsReduced problem.now (slice_set partial.old.marks place Undecided) }
+
+    // what the places are then
     ensures of { IsOf problem.now partial.new }
     ensures goes { GoesOn problem.now partial.old.marks partial.new.marks fixes.old fixes.new }
     ensures done { OnOk result (IsDone problem.now partial.new.marks) }

@@ -22,6 +22,8 @@ pub(crate) fn take(
     requires undecided { mark partial.old.marks (place_of fix) ≡ Undecided }
     requires holds { holds problem.now partial.old.marks fix ≡ true }
     requires fits { fix_fits (length problem.now.items) (length problem.now.lines) fix ≡ true }
+
+    // what the places are then
     ensures of { IsOf problem.now partial.new }
     ensures marks { OnOk result (partial.new.marks ≡ slice_set partial.old.marks (place_of fix) (becomes fix)) }
     ensures fixes { OnOk result (fixes.new ≡ fixes.old ++ fix ∷ []) }
@@ -41,10 +43,14 @@ fn rule_at(problem: &Problem, touch: &Touch, line: u32, partial: &Partial) -> Op
     requires of { IsOf problem.now partial.now }
     requires line { line < length problem.now.lines }
     requires touch { IsTouch problem.now line touch.now }
+
+    // the fix that is found
     ensures holds { IfSome result (λ fix. holds problem.now partial.now.marks fix ≡ true) }
     ensures place { IfSome result (λ fix. place_of fix ≡ touch.now.place) }
     ensures undecided { IfSome result (λ fix. mark partial.now.marks (place_of fix) ≡ Undecided) }
     ensures fits { IfSome result (λ fix. fix_fits (length problem.now.items) (length problem.now.lines) fix ≡ true) }
+
+    // where there is none
     ensures none { IfNone result (IsStill problem.now partial.now.marks line touch.now) }
 {
     let place = touch.place;

@@ -56,10 +56,14 @@ impl Register {
         requires few { self.old.state.machine.commands < 2 ^ 63 }
         requires budget { budget ≤ most_budget }
         requires cycle { AsksFor problem.now budget self.old.state.machine (judged self.old.journal.edition self.old.state.machine line) }
+
+        // what is made
         ensures made { IfOk result (λ made. IsMadeOf self.old.journal.edition self.old.state.machine line made.0) }
         ensures frame { IfOk result (λ made. made.1 ≡ frame_of made.0.record) }
         ensures payload { IfOk result (λ made. payload_of made.1 ≡ made.0.record) }
         ensures room { IfOk result (λ made. CanCommit self.new.state made.0.ready) }
+
+        // what stays
         ensures machine { self.new.state.machine ≡ self.old.state.machine }
         ensures journal { self.new.journal ≡ self.old.journal }
         ensures group { self.new.group ≡ self.old.group }

@@ -19,12 +19,16 @@ impl Register {
         requires short { length made.record ≤ most_grouped }
         requires fits { frames_length self.old.group + (length made.record + 5) < self.old.journal.left }
         requires can { CanCommit self.old.state made.ready }
+
+        // what is held then
         ensures held { (told : Bool) (before : Sight) (found added held : List EntryRecord) (e : EntryRecord) (sight : Sight) → Stands told before found added held self.old sight →
             IsMade e self.old.state.machine made → MayHold self.old.journal.edition self.old.state.machine e →
             OnOk result (Stands told before found added (held ++ e ∷ []) self.new sight) }
         ensures at_site { (sight : Sight) → IsAtSite self.old sight → OnOk result (IsAtSite self.new sight) }
         ensures group { OnOk result (self.new.group ≡ self.old.group ++ made.record ∷ []) }
         ensures counted { OnOk result (self.new.state.machine.commands ≡ self.old.state.machine.commands + 1) }
+
+        // what stays
         ensures journal { self.new.journal ≡ self.old.journal }
         ensures err { OnErr result (self.new ≡ self.old) }
     {

@@ -90,10 +90,14 @@ impl Intake {
     /// Takes bytes where all are used. `false` is the end of input.
     fn refill<S: Source>(&mut self, source: &mut S) -> Result<bool, FrameNo>
         requires { self.old.pending ≡ [] }
+
+        // what is answered
         ensures more { (old : Reach) (used : List ℕ) → Midway S.tells old used (reach_of self.old (S.feed source.old)) → IfOk result (λ more. more ≡ true → Midway S.tells old used (reach_of self.new (S.feed source.new))) }
         ensures some { IfOk result (λ more. more ≡ true → 0 < length self.new.pending) }
         ensures end { (old : Reach) (used : List ℕ) → Midway S.tells old used (reach_of self.old (S.feed source.old)) → IfOk result (λ more. more ≡ false → AtEnd S.tells old used (reach_of self.new (S.feed source.new))) }
         ensures breaks { (old : Reach) (used : List ℕ) → Midway S.tells old used (reach_of self.old (S.feed source.old)) → IfErr result (Breaks S.tells old used (reach_of self.new (S.feed source.new))) }
+
+        // the count of the faults
         ensures faults { (S.feed source.old).faults ≤ (S.feed source.new).faults }
         ensures quiet { result ≢ Err FrameNo.ReadFault → (S.feed source.new).faults ≡ (S.feed source.old).faults }
         ensures failed { result ≡ Err FrameNo.ReadFault → Rose (S.feed source.old).faults (S.feed source.new).faults }
@@ -118,9 +122,13 @@ impl Intake {
     fn past_limit<S: Source>(&self, source: &mut S) -> Result<bool, FrameNo>
         requires empty { self.now.pending ≡ [] }
         requires full { self.now.taken ≡ most_stream }
+
+        // what is answered
         ensures more { IfOk result (λ more. more ≡ false) }
         ensures end { (old : Reach) (used : List ℕ) → Midway S.tells old used (reach_of self.now (S.feed source.old)) → OnOk result (AtEnd S.tells old used (reach_of self.now (S.feed source.new))) }
         ensures breaks { (old : Reach) (used : List ℕ) → Midway S.tells old used (reach_of self.now (S.feed source.old)) → IfErr result (Breaks S.tells old used (reach_of self.now (S.feed source.new))) }
+
+        // the count of the faults
         ensures faults { (S.feed source.old).faults ≤ (S.feed source.new).faults }
         ensures quiet { result ≢ Err FrameNo.ReadFault → (S.feed source.new).faults ≡ (S.feed source.old).faults }
         ensures failed { result ≡ Err FrameNo.ReadFault → Rose (S.feed source.old).faults (S.feed source.new).faults }
@@ -169,10 +177,16 @@ impl Intake {
 fn pull<S: Source>(source: &mut S, bytes: &mut [u8], most: usize) -> Result<usize, Failed>
     requires most { 0 < most }
     requires room { most ≤ length bytes.old }
+
+    // what is given
     ensures bounded { IfOk result (λ n. n ≤ most) }
     ensures moved { IsTrue S.tells → IfOk result (λ n. (S.feed source.old).left ≡ take n bytes.new ++ (S.feed source.new).left) }
     ensures ends { IsTrue S.tells → IfOk result (λ n. n ≡ 0 → (S.feed source.old).left ≡ []) }
+
+    // where it fails
     ensures kept { IsTrue S.tells → OnErr result ((S.feed source.new).left ≡ (S.feed source.old).left) }
+
+    // the count of the faults
     ensures faults { (S.feed source.old).faults ≤ (S.feed source.new).faults }
     ensures quiet { OnOk result ((S.feed source.new).faults ≡ (S.feed source.old).faults) }
     ensures failed { OnErr result (Rose (S.feed source.old).faults (S.feed source.new).faults) }

@@ -39,7 +39,11 @@ impl Room {
         requires decided { AreDecided problem.now self.old.marks }
         requires covered { IsCovered problem.now self.old.marks }
         requires chosen { mark self.old.marks given ≡ Mark.Chosen }
+
+        // the answer
         ensures answer { IsTrue result ↔ HasBetter problem.now (slice_set self.old.marks given Mark.Left) members.now given }
+
+        // what stays
         ensures room { IsRoomOf problem.now self.new }
         ensures same { self.new.marks ≡ self.old.marks }
     {
@@ -57,7 +61,11 @@ impl Room {
         requires given { given < length problem.now.items }
         requires decided { AreDecided problem.now self.old.marks }
         requires covered { IsCoveredBut problem.now self.old.marks given }
+
+        // the answer
         ensures answer { IsTrue result ↔ HasBetter problem.now self.old.marks members.now given }
+
+        // what stays
         ensures room { IsRoomOf problem.now self.new }
         ensures same { self.new.marks ≡ self.old.marks }
     {
@@ -80,7 +88,11 @@ impl Room {
         requires decided { AreDecided problem.now self.old.marks }
         requires covered { IsCoveredBut problem.now self.old.marks given }
         requires left { mark self.old.marks taken ≡ Mark.Left }
+
+        // the answer
         ensures answer { IsTrue result ↔ IsCovered problem.now (slice_set self.old.marks taken Mark.Chosen) }
+
+        // what stays
         ensures room { IsRoomOf problem.now self.new }
         ensures same { self.new.marks ≡ self.old.marks }
     {

@@ -54,9 +54,13 @@ impl Arena {
         requires at { at < length self.old.nodes.items }
         requires open { IsOpen (node_at self.old.nodes.items at).end }
         requires split { CanAdd self.old.totals.items at split }
+
+        // the arena then
         ensures nodes { OnOk result (self.new.nodes.items ≡ added self.old.nodes.items at split) }
         ensures linked { OnOk result (AreLinked self.new.nodes.items) }
         ensures totals { OnOk result (AreTotals self.new.nodes.items self.new.totals.items) }
+
+        // what becomes less, and what more
         ensures lower { OnOk result ((total_at self.new.totals.items 0).greatest ≤ (total_at self.old.totals.items 0).greatest) }
         ensures more { OnOk result ((total_at self.new.totals.items 0).branches ≡ (total_at self.old.totals.items 0).branches + 1) }
     {

@@ -19,7 +19,11 @@ pub(crate) fn bound(problem: &Problem, partial: &Partial, lam: &Lam, point: &mut
     requires point { length point.old ≡ length problem.now.lines }
     requires lam { AreMultipliers (length problem.now.lines) lam.now }
     requires under { sum_of problem.now partial.now.marks (multiplier lam.now) ≤ℤ sum_of problem.now partial.now.marks (λ _. 0) }
+
+    // the multipliers that were settled
     ensures point { length point.new ≡ length point.old }
+
+    // the bound that they prove
     ensures small { result ≤ most_bound }
     ensures above { closes problem.now result lam.now partial.now.marks ≡ true }
     ensures least { 0 < result → reaches problem.now result lam.now partial.now.marks ≡ true }

@@ -28,10 +28,14 @@ pub(crate) fn branch(
     requires lam { lam_fits (length problem.now.lines) lam.now ≡ true }
     requires some { is_open problem.now desk.old.partial.marks ≡ true }
     requires best { IsBest problem.now best.old }
+
+    // the desk, and the best set
     ensures desk { OnOk result (IsDesk problem.now desk.new) }
     ensures marks { OnOk result (desk.new.partial.marks ≡ desk.old.partial.marks) }
     ensures best { IsBest problem.now best.new }
     ensures not_worse { best.old.value ≤ best.new.value }
+
+    // the branch that is made
     ensures split { IfOk result (λ split. IsSplitAt problem.now best.new.value at desk.old.partial.marks lam.now split) }
 {
     let lead = lead(

@@ -28,11 +28,17 @@ pub(crate) fn descend(
     requires arena { SomeArena problem.now partial.old.marks nodes.now }
     requires totals { AreTotals nodes.now totals.now }
     requires above { 0 < (total_at totals.now 0).greatest }
+
+    // the places there
     ensures of { IsOf problem.now partial.new }
     ensures members { (j : ℕ) → j < length problem.now.items → mark partial.new.marks j ≢ Stranger }
+
+    // the node that is found
     ensures within { result < length nodes.now }
     ensures open { IsOpen (node_at nodes.now result).end }
     ensures greatest { (total_at totals.now result).greatest ≡ (total_at totals.now 0).greatest }
+
+    // the way to it
     ensures leads { (u v : ℕ) (enter : ℕ → List Mark) → IsArena problem.now u v nodes.now enter → enter 0 ≡ partial.old.marks →
         after problem.now (node_at nodes.now result).fixes (enter result) ≡ Some partial.new.marks }
 {

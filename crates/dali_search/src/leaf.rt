@@ -36,10 +36,14 @@ pub(crate) fn side(
     requires undecided { mark desk.old.partial.marks place ≡ Undecided }
     requires start { AreMultipliers (length problem.now.lines) start.now }
     requires best { IsBest problem.now best.old }
+
+    // the desk, and the best set
     ensures desk { OnOk result (IsDesk problem.now desk.new) }
     ensures marks { OnOk result (desk.new.partial.marks ≡ desk.old.partial.marks) }
     ensures best { IsBest problem.now best.new }
     ensures not_worse { best.old.value ≤ best.new.value }
+
+    // the node that is made
     ensures above { IfOk result (λ node. node.above ≡ above) }
     ensures leaf { IfOk result (λ node. IsLeafAt problem.now best.new.value (slice_set desk.old.partial.marks place (if chosen then Chosen else Left)) node) }
     ensures below { IfOk result (λ node. IsBelow problem.now start.now desk.old.partial.marks (leaf_bound node.end)) }
@@ -62,10 +66,14 @@ pub(crate) fn leaf(
     requires desk { IsDesk problem.now desk.old }
     requires start { AreMultipliers (length problem.now.lines) start.now }
     requires best { IsBest problem.now best.old }
+
+    // the desk, and the best set
     ensures desk { OnOk result (IsDesk problem.now desk.new) }
     ensures marks { OnOk result (desk.new.partial.marks ≡ desk.old.partial.marks) }
     ensures best { IsBest problem.now best.new }
     ensures not_worse { best.old.value ≤ best.new.value }
+
+    // the node that is made
     ensures above { IfOk result (λ node. node.above ≡ above) }
     ensures leaf { IfOk result (λ node. IsLeafAt problem.now best.new.value desk.old.partial.marks node) }
     ensures below { IfOk result (λ node. IsBelow problem.now start.now desk.old.partial.marks (leaf_bound node.end)) }
@@ -88,10 +96,14 @@ fn finish(
     requires done { IsDone problem.now desk.old.partial.marks }
     requires start { AreMultipliers (length problem.now.lines) start.now }
     requires best { IsBest problem.now best.old }
+
+    // the desk, and the best set
     ensures desk { OnOk result (IsDesk problem.now desk.new) }
     ensures partial { OnOk result (desk.new.partial ≡ desk.old.partial) }
     ensures best { IsBest problem.now best.new }
     ensures not_worse { best.old.value ≤ best.new.value }
+
+    // the end that is made
     ensures holds { IfOk result (λ end. LeafHolds problem.now best.new.value desk.old.partial.marks end) }
     ensures below { IfOk result (λ end. IsBelow problem.now start.now desk.old.partial.marks (leaf_bound end)) }
 {

@@ -69,6 +69,8 @@ fn keep(
     requires places { ArePlaces problem.now set.now }
     requires feasible { IsFeasible problem.now set.now }
     requires best { IsBest problem.now best.old }
+
+    // the best set then
     ensures best { IsBest problem.now best.new }
     ensures not_worse { best.old.value ≤ best.new.value }
     ensures kept { OnOk result (value_of problem.now set.now ≤ best.new.value) }

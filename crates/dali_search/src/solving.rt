@@ -68,9 +68,13 @@ fn root(
     requires desk { IsDesk problem.now desk.old }
     requires start { desk.old.partial.marks ≡ start_of problem.now }
     requires best { IsBest problem.now best.old }
+
+    // the desk, and the best set
     ensures desk { OnOk result (IsDesk problem.now desk.new) }
     ensures start { OnOk result (desk.new.partial.marks ≡ start_of problem.now) }
     ensures best { IsBest problem.now best.new }
+
+    // the arena that is made
     ensures searched { IfOk result (λ arena. IsSearched problem.now best.new.value arena.nodes.items arena.totals.items) }
     ensures none { IfOk result (λ arena. (total_at arena.totals.items 0).branches ≡ 0) }
 {
@@ -93,9 +97,13 @@ fn step(
     requires searched { IsSearched problem.now best.old.value arena.old.nodes.items arena.old.totals.items }
     requires above { best.old.value < (total_at arena.old.totals.items 0).greatest }
     requires few { (total_at arena.old.totals.items 0).branches < most_budget }
+
+    // the desk, and the best set
     ensures desk { OnOk result (IsDesk problem.now desk.new) }
     ensures start { OnOk result (desk.new.partial.marks ≡ start_of problem.now) }
     ensures best { IsBest problem.now best.new }
+
+    // the arena then
     ensures searched { OnOk result (IsSearched problem.now best.new.value arena.new.nodes.items arena.new.totals.items) }
     ensures more { OnOk result ((total_at arena.new.totals.items 0).branches ≡ (total_at arena.old.totals.items 0).branches + 1) }
 {
@@ -125,10 +133,14 @@ fn branch_at(
     requires open { IsOpenEnd problem.now (node_at nodes.now at).end }
     requires some { is_open problem.now desk.old.partial.marks ≡ true }
     requires best { IsBest problem.now best.old }
+
+    // the desk, and the best set
     ensures desk { OnOk result (IsDesk problem.now desk.new) }
     ensures marks { OnOk result (desk.new.partial.marks ≡ desk.old.partial.marks) }
     ensures best { IsBest problem.now best.new }
     ensures not_worse { best.old.value ≤ best.new.value }
+
+    // the branch that is made
     ensures split { IfOk result (λ split. IsSplitAt problem.now best.new.value at desk.old.partial.marks (lam_of (node_at nodes.now at).end) split) }
 {
     match &nodes[at as usize].end {
@@ -152,6 +164,8 @@ fn conclude(
     requires searched { IsSearched problem.now best.value arena.now.nodes.items arena.now.totals.items }
     requires within { (total_at arena.now.totals.items 0).branches ≤ budget }
     requires ended { (total_at arena.now.totals.items 0).branches < budget → (total_at arena.now.totals.items 0).greatest ≤ best.value }
+
+    // the choice that is answered
     ensures fits { IfOk result (λ choice. Fits (length problem.now.items) (length problem.now.lines) choice) }
     ensures allowed { IfOk result (λ choice. Allowed problem.now budget choice) }
     ensures whole { IfOk result (λ choice. IsWhole (length problem.now.items) choice) }

@@ -19,8 +19,12 @@ impl Book {
         requires covered { All (λ m. pos 0 ≤ℤ (pos (units_of self.old.book.balances (pair_of m)) +ℤ m.delta)) net.now }
         requires limit { (asset : List ℕ) → held self.old.book.accounts (with_net self.old.book.balances net.now) self.old.book.earmarks asset ≤ most_total }
         requires room { length net.now ≤ self.old.spare_lines }
+
+        // what is booked
         ensures book { self.new.book ≡ record self.old.book { balances = with_net self.old.book.balances net.now } }
         ensures totals { (asset : List ℕ) → pos (total_of self.new.book asset) ≡ (pos (total_of self.old.book asset) +ℤ asset_delta net.now asset) }
+
+        // what was taken in advance
         ensures room { self.old.spare_lines ≤ self.new.spare_lines + length net.now }
         ensures readied_account { self.new.readied_account ≡ self.old.readied_account }
         ensures readied_code { self.new.readied_code ≡ self.old.readied_code }
@@ -37,9 +41,13 @@ fn add_move(balances: &mut Holdings, assets: &mut Assets, item: &Move)
     requires units { FitsUnsigned w64 (pos (units_of balances.old.units (pair_of item.now)) +ℤ item.now.delta) }
     requires total { FitsUnsigned w64 (pos (total_at assets.old item.now.asset) +ℤ item.now.delta) }
     requires spare { 0 < balances.old.spare }
+
+    // what is booked
     ensures balances { balances.new.units ≡ with_move balances.old.units item.now }
     ensures room { balances.old.spare ≤ balances.new.spare + 1 }
     ensures totals { (other : List ℕ) → total_at assets.new other ≡ (if same_name other item.now.asset then after_move (total_at assets.old item.now.asset) item.now.delta else total_at assets.old other) }
+
+    // what stays
     ensures prices { prices assets.new.listings ≡ prices assets.old.listings }
     ensures readied { assets.new.readied ≡ assets.old.readied }
 {

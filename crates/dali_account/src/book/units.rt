@@ -25,9 +25,15 @@ impl Book {
         ensures ok { OnOk result (self.new.book ≡ issued self.old.book account asset quantity) }
         ensures total { OnOk result (total_of self.new.book asset ≡ total_of self.old.book asset + quantity) }
         ensures others { (other : List ℕ) → other ≢ asset → total_of self.new.book other ≡ total_of self.old.book other }
+
+        // want of memory, and what was taken in advance
         ensures spare { 0 < self.old.spare_lines → result ≢ Err BookNo.OutOfMemory }
         ensures room { self.old.spare_lines ≤ self.new.spare_lines + 1 }
+
+        // at a refusal
         ensures err { OnErr result (self.new.book ≡ self.old.book) }
+
+        // what stays
         ensures readied_account { self.new.readied_account ≡ self.old.readied_account }
         ensures readied_code { self.new.readied_code ≡ self.old.readied_code }
     {
@@ -55,8 +61,14 @@ impl Book {
         ensures ok { OnOk result (self.new.book ≡ drawn self.old.book account asset quantity) }
         ensures total { OnOk result (total_of self.new.book asset + quantity ≡ total_of self.old.book asset) }
         ensures others { (other : List ℕ) → other ≢ asset → total_of self.new.book other ≡ total_of self.old.book other }
+
+        // what was taken in advance
         ensures room { self.new.spare_lines ≡ self.old.spare_lines }
+
+        // at a refusal
         ensures err { OnErr result (self.new.book ≡ self.old.book) }
+
+        // what stays
         ensures readied_account { self.new.readied_account ≡ self.old.readied_account }
         ensures readied_code { self.new.readied_code ≡ self.old.readied_code }
     {
@@ -82,9 +94,15 @@ impl Book {
         ensures refusal { Answers (draw_refusal self.old.book account asset quantity) result }
         ensures ok { OnOk result (self.new.book ≡ after_earmark self.old.book account asset quantity) }
         ensures totals { (other : List ℕ) → total_of self.new.book other ≡ total_of self.old.book other }
+
+        // want of memory, and what was taken in advance
         ensures spare { 0 < self.old.spare_lines → result ≢ Err BookNo.OutOfMemory }
         ensures room { self.old.spare_lines ≤ self.new.spare_lines + 1 }
+
+        // at a refusal
         ensures err { OnErr result (self.new.book ≡ self.old.book) }
+
+        // what stays
         ensures readied_account { self.new.readied_account ≡ self.old.readied_account }
         ensures readied_code { self.new.readied_code ≡ self.old.readied_code }
     {
@@ -110,9 +128,15 @@ impl Book {
         ensures refusal { Answers (release_refusal self.old.book account asset quantity) result }
         ensures ok { OnOk result (self.new.book ≡ after_release self.old.book account asset quantity) }
         ensures totals { (other : List ℕ) → total_of self.new.book other ≡ total_of self.old.book other }
+
+        // want of memory, and what was taken in advance
         ensures spare { 0 < self.old.spare_lines → result ≢ Err BookNo.OutOfMemory }
         ensures room { self.old.spare_lines ≤ self.new.spare_lines + 1 }
+
+        // at a refusal
         ensures err { OnErr result (self.new.book ≡ self.old.book) }
+
+        // what stays
         ensures readied_account { self.new.readied_account ≡ self.old.readied_account }
         ensures readied_code { self.new.readied_code ≡ self.old.readied_code }
     {
@@ -157,11 +181,17 @@ impl Book {
         requires earmark { next.earmark ≤ earmark_of self.old.book account asset }
         requires moved { next.balance + next.earmark + total_of self.old.book asset ≡ balance_of self.old.book account asset + earmark_of self.old.book account asset + next.total }
         requires limit { next.total ≤ most_total }
+
+        // what is booked
         ensures memory { IsOkUnless result BookNo.OutOfMemory }
         ensures ok { OnOk result (self.new.book ≡ with_pair self.old.book account asset next.balance next.earmark) }
         ensures totals { (other : List ℕ) → total_of self.new.book other ≡ (if is_ok result && same_name other asset then next.total else total_of self.old.book other) }
+
+        // want of memory, and what was taken in advance
         ensures spare { 0 < self.old.spare_lines → IsOk result }
         ensures room { self.old.spare_lines ≤ self.new.spare_lines + 1 }
+
+        // what stays
         ensures err { OnErr result (self.new.book ≡ self.old.book) }
         ensures readied_account { self.new.readied_account ≡ self.old.readied_account }
         ensures readied_code { self.new.readied_code ≡ self.old.readied_code }
@@ -182,11 +212,17 @@ impl Book {
         requires balance { next.balance ≤ balance_of self.old.book account asset }
         requires moved { next.balance + next.earmark + total_of self.old.book asset ≡ balance_of self.old.book account asset + earmark_of self.old.book account asset + next.total }
         requires limit { next.total ≤ most_total }
+
+        // what is booked
         ensures memory { IsOkUnless result BookNo.OutOfMemory }
         ensures ok { OnOk result (self.new.book ≡ with_pair self.old.book account asset next.balance next.earmark) }
         ensures totals { (other : List ℕ) → total_of self.new.book other ≡ (if is_ok result && same_name other asset then next.total else total_of self.old.book other) }
+
+        // want of memory, and what was taken in advance
         ensures spare { 0 < self.old.spare_lines → IsOk result }
         ensures room { self.old.spare_lines ≤ self.new.spare_lines + 1 }
+
+        // what stays
         ensures err { OnErr result (self.new.book ≡ self.old.book) }
         ensures readied_account { self.new.readied_account ≡ self.old.readied_account }
         ensures readied_code { self.new.readied_code ≡ self.old.readied_code }
@@ -208,8 +244,12 @@ impl Book {
         requires earmark { next.earmark ≤ earmark_of self.old.book account asset }
         requires moved { next.balance + next.earmark + total_of self.old.book asset ≡ balance_of self.old.book account asset + earmark_of self.old.book account asset + next.total }
         requires limit { next.total ≤ most_total }
+
+        // what is booked
         ensures book { self.new.book ≡ with_pair self.old.book account asset next.balance next.earmark }
         ensures totals { (other : List ℕ) → total_of self.new.book other ≡ (if same_name other asset then next.total else total_of self.old.book other) }
+
+        // what stays
         ensures room { self.new.spare_lines ≡ self.old.spare_lines }
         ensures readied_account { self.new.readied_account ≡ self.old.readied_account }
         ensures readied_code { self.new.readied_code ≡ self.old.readied_code }

@@ -22,12 +22,18 @@ impl State {
     /// moment never falls.
     pub fn commit(&mut self, ready: Ready) -> Outcome
         requires { CanCommit self.old ready }
+
+        // what is answered, and the state then
         ensures outcome { result ≡ ready.outcome }
         ensures next { self.new.machine ≡ (turn (counted self.old.machine) ready.judged (cycle_in ready.outcome)).next }
         ensures reported { IsReported result }
         ensures counted { self.new.machine.commands ≡ self.old.machine.commands + 1 }
+
+        // what a refusal leaves, and what no command changes
         ensures refused { (code : Code) → result ≡ Outcome.No code → LeavesAll code self.old.machine self.new.machine }
         ensures totals { KeepsTotals ready.judged self.old.machine.book self.new.machine.book }
+
+        // this is the step
         ensures step { (edition : ℕ) (line : List ℕ) (choice : Option Choice) → IsReady edition self.old.machine line choice ready → self.new.machine ≡ (step edition self.old.machine line choice).next }
         ensures rises { (edition : ℕ) (line : List ℕ) (choice : Option Choice) → IsReady edition self.old.machine line choice ready → self.old.machine.greatest ≤ self.new.machine.greatest }
     {
