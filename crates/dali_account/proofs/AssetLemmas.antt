@@ -1,8 +1,9 @@
 use Rattle.std.proofs.Common.{◌≡◌, ℕ, Bool, true, false, cond, ◌||◌, List, [], ◌∷◌, ◌++◌, length, suc, Option, Some, None, is_some, refl, sym, ap, ◌∙◌, subst, true≢false}
 use Rattle.std.specs.Option.{option_map, option_map_or}
 use Rattle.std.specs.Map.{lookup, set_value}
+use Rattle.dali_base.specs.Readers.{same_bytes}
 use Rattle.dali_account.specs.declared.assets.Listing.{Listing}
-use Rattle.dali_account.specs.Book.{same_name, cash, price_of, has_asset}
+use Rattle.dali_account.specs.Book.{cash, price_of, has_asset}
 use Rattle.dali_account.specs.AssetList.{prices}
 use Rattle.dali_account.proofs.SumLemmas.{same_name_is, second_false}
 
@@ -15,8 +16,8 @@ lookup-prices test (e ∷ es) = by (test e.0) (lookup-prices test es)
     by true rest = refl
     by false rest = rest
 
-pub found_price : (es : List (List ℕ × Listing)) (code : List ℕ) (o : Option Listing) → o ≡ lookup (same_name code) es → option_map (λ (l : Listing). l.price) o ≡ price_of (prices es) code
-found_price es code o found = ap (option_map (λ (l : Listing). l.price)) found ∙ sym (lookup-prices (same_name code) es)
+pub found_price : (es : List (List ℕ × Listing)) (code : List ℕ) (o : Option Listing) → o ≡ lookup (same_bytes code) es → option_map (λ (l : Listing). l.price) o ≡ price_of (prices es) code
+found_price es code o found = ap (option_map (λ (l : Listing). l.price)) found ∙ sym (lookup-prices (same_bytes code) es)
 
 pub length-prices : (es : List (List ℕ × Listing)) → length (prices es) ≡ length es
 length-prices [] = refl
@@ -27,11 +28,11 @@ prices-append [] code l = refl
 prices-append (e ∷ es) code l = ap (λ rest. (e.0, e.1.price) ∷ rest) (prices-append es code l)
 
 -- another code behind leaves a code unknown
-pub price_after : (codes : List (List ℕ × ℕ)) (code : List ℕ) (price : ℕ) (other : List ℕ) → price_of codes other ≡ None → same_name other code ≡ false → price_of (codes ++ (code, price) ∷ []) other ≡ None
+pub price_after : (codes : List (List ℕ × ℕ)) (code : List ℕ) (price : ℕ) (other : List ℕ) → price_of codes other ≡ None → same_bytes other code ≡ false → price_of (codes ++ (code, price) ∷ []) other ≡ None
 price_after [] code price other none apart = ap (λ t. cond t (Some price) None) apart
-price_after (c ∷ cs) code price other none apart = by (same_name other c.0) none (price_after cs code price other)
+price_after (c ∷ cs) code price other none apart = by (same_bytes other c.0) none (price_after cs code price other)
   where
-    by : (b : Bool) → cond b (Some c.1) (price_of cs other) ≡ None → (price_of cs other ≡ None → same_name other code ≡ false → price_of (cs ++ (code, price) ∷ []) other ≡ None) →
+    by : (b : Bool) → cond b (Some c.1) (price_of cs other) ≡ None → (price_of cs other ≡ None → same_bytes other code ≡ false → price_of (cs ++ (code, price) ∷ []) other ≡ None) →
         cond b (Some c.1) (price_of (cs ++ (code, price) ∷ []) other) ≡ None
     by true some rest = absurd (true≢false (ap is_some some))
     by false later rest = rest later apart
@@ -56,24 +57,24 @@ none_of None e = refl
 none_of (Some l) e = absurd (true≢false e)
 
 -- an asset that isn't there has no listing
-pub no_listing : (es : List (List ℕ × Listing)) (asset : List ℕ) → has_asset (prices es) asset ≡ false → lookup (same_name asset) es ≡ None
+pub no_listing : (es : List (List ℕ × Listing)) (asset : List ℕ) → has_asset (prices es) asset ≡ false → lookup (same_bytes asset) es ≡ None
 no_listing es asset absent =
-    none_of (lookup (same_name asset) es)
-    (sym (ap is_some (lookup-prices (same_name asset) es)) ∙ second_false (same_name asset cash) (is_some (price_of (prices es) asset)) absent)
+    none_of (lookup (same_bytes asset) es)
+    (sym (ap is_some (lookup-prices (same_bytes asset) es)) ∙ second_false (same_bytes asset cash) (is_some (price_of (prices es) asset)) absent)
 
 -- and one that is there, and isn't cash, has one
-pub no_asset : (es : List (List ℕ × Listing)) (asset : List ℕ) → same_name asset cash ≡ false → None ≡ lookup (same_name asset) es → has_asset (prices es) asset ≡ false
+pub no_asset : (es : List (List ℕ × Listing)) (asset : List ℕ) → same_bytes asset cash ≡ false → None ≡ lookup (same_bytes asset) es → has_asset (prices es) asset ≡ false
 no_asset es asset other none =
     ap (λ t. t || is_some (price_of (prices es) asset)) other ∙ ap is_some (sym (found_price es asset None none))
 
 -- a new listing of no units leaves each total
-pub same_total : (es fs : List (List ℕ × Listing)) (code asset : List ℕ) (l : Listing) → l.total ≡ 0 → lookup (same_name code) es ≡ None →
-    lookup (same_name asset) fs ≡ cond (same_name code asset) (Some l) (lookup (same_name asset) es) →
-    option_map_or (λ (m : Listing). m.total) (lookup (same_name asset) fs) 0 ≡ option_map_or (λ (m : Listing). m.total) (lookup (same_name asset) es) 0
-same_total es fs code asset l empty none updated = ap (λ o. option_map_or (λ (m : Listing). m.total) o 0) updated ∙ by (same_name code asset) refl
+pub same_total : (es fs : List (List ℕ × Listing)) (code asset : List ℕ) (l : Listing) → l.total ≡ 0 → lookup (same_bytes code) es ≡ None →
+    lookup (same_bytes asset) fs ≡ cond (same_bytes code asset) (Some l) (lookup (same_bytes asset) es) →
+    option_map_or (λ (m : Listing). m.total) (lookup (same_bytes asset) fs) 0 ≡ option_map_or (λ (m : Listing). m.total) (lookup (same_bytes asset) es) 0
+same_total es fs code asset l empty none updated = ap (λ o. option_map_or (λ (m : Listing). m.total) o 0) updated ∙ by (same_bytes code asset) refl
   where
-    by : (b : Bool) → same_name code asset ≡ b → option_map_or (λ (m : Listing). m.total) (cond b (Some l) (lookup (same_name asset) es)) 0 ≡ option_map_or (λ (m : Listing). m.total) (lookup (same_name asset) es) 0
+    by : (b : Bool) → same_bytes code asset ≡ b → option_map_or (λ (m : Listing). m.total) (cond b (Some l) (lookup (same_bytes asset) es)) 0 ≡ option_map_or (λ (m : Listing). m.total) (lookup (same_bytes asset) es) 0
     by true told =
-        let gone : lookup (same_name asset) es ≡ None = subst (λ n. lookup (same_name n) es ≡ None) (same_name_is code asset told) none in
+        let gone : lookup (same_bytes asset) es ≡ None = subst (λ n. lookup (same_bytes n) es ≡ None) (same_name_is code asset told) none in
         empty ∙ sym (ap (λ o. option_map_or (λ (m : Listing). m.total) o 0) gone)
     by false told = refl

@@ -10,8 +10,9 @@ use Rattle.std.specs.Prelude.{unwrap_or}
 use Rattle.dali_base.specs.NameList.{NameList, with_name}
 use Rattle.dali_account.proofs.AssetLemmas.{length-prices, price_after}
 use Rattle.dali_account.specs.Units.{PairKey, Units, pair_cmp, units_of, with_units}
-use Rattle.dali_account.specs.Book.{same_name, cash, has_account, has_asset, price_of, held}
+use Rattle.dali_account.specs.Book.{cash, has_account, has_asset, price_of, held}
 use Rattle.dali_base.specs.Limits.{most_total}
+use Rattle.dali_base.specs.Readers.{same_bytes}
 use Rattle.dali_account.specs.Limits.{most_codes}
 use Rattle.dali_account.specs.AssetList.{AssetList, prices, total_at}
 use Rattle.dali_account.specs.BookKept.{IsBalanced}
@@ -19,10 +20,10 @@ use Rattle.dali_account.proofs.UnitsLemmas.{same_pair}
 use Rattle.dali_account.proofs.SumLemmas.{same_name_is, same_name_symm, first_false, held_moved, held_other, units_other, term_le_sum}
 
 -- a name that isn't there is another name than one that is
-pub other_name : (accounts : List (List ℕ)) (a b : List ℕ) → has_account accounts a ≡ true → has_account accounts b ≡ false → same_name b a ≡ false
-other_name accounts a b there absent = by (same_name b a) refl
+pub other_name : (accounts : List (List ℕ)) (a b : List ℕ) → has_account accounts a ≡ true → has_account accounts b ≡ false → same_bytes b a ≡ false
+other_name accounts a b there absent = by (same_bytes b a) refl
   where
-    by : (t : Bool) → same_name b a ≡ t → t ≡ false
+    by : (t : Bool) → same_bytes b a ≡ t → t ≡ false
     by false e = refl
     by true e = absurd (true≢false (sym there ∙ ap (has_account accounts) (sym (same_name_is b a e)) ∙ absent))
 
@@ -30,7 +31,7 @@ other_name accounts a b there absent = by (same_name b a) refl
 module _ (accounts : List (List ℕ)) (old new : AssetList) (balances earmarks : Units) (account asset : List ℕ) (balance earmark total : ℕ)
     (kept : IsBalanced accounts old balances earmarks) (there : has_account accounts account ≡ true)
     (priced : prices new.listings ≡ prices old.listings)
-    (set : (q : List ℕ) → total_at new q ≡ cond (same_name q asset) total (total_at old q))
+    (set : (q : List ℕ) → total_at new q ≡ cond (same_bytes q asset) total (total_at old q))
     (moved : balance + earmark + held accounts balances earmarks asset ≡ units_of balances (account, asset) + units_of earmarks (account, asset) + total)
     (limited : total ≤ most_total) where
   sum_is : held accounts (with_units balances (account, asset) balance) (with_units earmarks (account, asset) earmark) asset ≡ total
@@ -39,15 +40,15 @@ module _ (accounts : List (List ℕ)) (old new : AssetList) (balances earmarks :
       omega (arith, sums)
 
   totals_kept : (q : List ℕ) → total_at new q ≡ held accounts (with_units balances (account, asset) balance) (with_units earmarks (account, asset) earmark) q
-  totals_kept q = by (same_name q asset) refl
+  totals_kept q = by (same_bytes q asset) refl
     where
-      by : (b : Bool) → same_name q asset ≡ b → total_at new q ≡ held accounts (with_units balances (account, asset) balance) (with_units earmarks (account, asset) earmark) q
+      by : (b : Bool) → same_bytes q asset ≡ b → total_at new q ≡ held accounts (with_units balances (account, asset) balance) (with_units earmarks (account, asset) earmark) q
       by true e = set q ∙ ap (λ t. cond t total (total_at old q)) e ∙ sym sum_is
           ∙ ap (held accounts (with_units balances (account, asset) balance) (with_units earmarks (account, asset) earmark)) (sym (same_name_is q asset e))
       by false e = set q ∙ ap (λ t. cond t total (total_at old q)) e ∙ kept.totals q ∙ sym (held_other accounts balances earmarks account asset balance earmark q e)
 
   limit_kept : (q : List ℕ) → total_at new q ≤ most_total
-  limit_kept q = let P : ℕ → Type 0 = λ n. n ≤ most_total in subst P (sym (set q)) (by (same_name q asset))
+  limit_kept q = let P : ℕ → Type 0 = λ n. n ≤ most_total in subst P (sym (set q)) (by (same_bytes q asset))
     where
       by : (b : Bool) → cond b total (total_at old q) ≤ most_total
       by true = limited
@@ -55,7 +56,7 @@ module _ (accounts : List (List ℕ)) (old new : AssetList) (balances earmarks :
 
   known_kept : (a q : List ℕ) → has_account accounts a ≡ false → units_of (with_units balances (account, asset) balance) (a, q) + units_of (with_units earmarks (account, asset) earmark) (a, q) ≡ 0
   known_kept a q absent =
-      let apart : same_pair (a, q) (account, asset) ≡ false = ap (λ t. t && same_name q asset) (other_name accounts account a there absent) in
+      let apart : same_pair (a, q) (account, asset) ≡ false = ap (λ t. t && same_bytes q asset) (other_name accounts account a there absent) in
       let one : units_of (with_units balances (account, asset) balance) (a, q) ≡ units_of balances (a, q) = units_other balances (account, asset) balance (a, q) apart in
       let two : units_of (with_units earmarks (account, asset) earmark) (a, q) ≡ units_of earmarks (a, q) = units_other earmarks (account, asset) earmark (a, q) apart in
       let zero_before = kept.known a q absent in
@@ -80,8 +81,8 @@ module _ (accounts : List (List ℕ)) (old new : AssetList) (balances earmarks :
 
   -- the asset's total is the new one, and every other's stays
   pub total_moved : (q : List ℕ) → held accounts (with_units balances (account, asset) balance) (with_units earmarks (account, asset) earmark) q
-      ≡ cond (same_name q asset) total (held accounts balances earmarks q)
-  total_moved q = sym (totals_kept q) ∙ set q ∙ ap (cond (same_name q asset) total) (kept.totals q)
+      ≡ cond (same_bytes q asset) total (held accounts balances earmarks q)
+  total_moved q = sym (totals_kept q) ∙ set q ∙ ap (cond (same_bytes q asset) total) (kept.totals q)
 
 -- an account more keeps the book balanced
 pub kept_account : (names : NameList) (assets : AssetList) (balances earmarks : Units) (account : List ℕ) → IsBalanced names.names assets balances earmarks → length names.names + 1 ≤ most_codes →
@@ -101,7 +102,7 @@ kept_account names assets balances earmarks account kept fit = by (has_account n
           let before = kept.totals q in
           omega (arith, pushed, none, before);
       limit = kept.limit;
-      known = λ a q absent. kept.known a q (first_false (has_account names.names a) (has_account (account ∷ []) a) (sym (list_any-append (same_name a) names.names (account ∷ [])) ∙ absent));
+      known = λ a q absent. kept.known a q (first_false (has_account names.names a) (has_account (account ∷ []) a) (sym (list_any-append (same_bytes a) names.names (account ∷ [])) ∙ absent));
     }
 
 -- and every total as it was
@@ -127,13 +128,13 @@ kept_code accounts old new balances earmarks code price kept absent fit priced s
       let more : length (prices new.listings) ≡ length (prices old.listings ++ (code, price) ∷ []) = ap length priced in
       omega (arith, more, length-append (prices old.listings) ((code, price) ∷ []), length-prices new.listings, length-prices old.listings, fit);
   cash_apart = ap (λ ps. price_of ps cash) priced
-      ∙ price_after (prices old.listings) code price cash kept.cash_apart (same_name_symm cash code ∙ first_false (same_name code cash) (is_some (price_of (prices old.listings) code)) absent);
+      ∙ price_after (prices old.listings) code price cash kept.cash_apart (same_name_symm cash code ∙ first_false (same_bytes code cash) (is_some (price_of (prices old.listings) code)) absent);
   totals = λ q. same q ∙ kept.totals q;
   limit = λ q. let P : ℕ → Type 0 = λ n. n ≤ most_total in subst P (sym (same q)) (kept.limit q);
   known = kept.known;
 }
 
-distinct_none : IsDistinct same_name []
+distinct_none : IsDistinct same_bytes []
 unfolding IsDistinct
 distinct_none = tt
 
@@ -151,8 +152,8 @@ kept_new = record {
   accounts_fit = omega arith;
   codes_fit = omega arith;
   cash_apart = refl;
-  totals = λ q. totals_none (same_name q cash);
-  limit = λ q. let P : ℕ → Type 0 = λ n. n ≤ most_total in subst P (sym (totals_none (same_name q cash))) (omega arith);
+  totals = λ q. totals_none (same_bytes q cash);
+  limit = λ q. let P : ℕ → Type 0 = λ n. n ≤ most_total in subst P (sym (totals_none (same_bytes q cash))) (omega arith);
   known = λ a q absent. let none = no_units (a, q) in omega (arith, none);
 }
 

@@ -6,8 +6,9 @@ use Rattle.std.specs.Int.{FitsUnsigned, w64}
 use Rattle.std.specs.List.{IsDistinct}
 use Rattle.dali_account.specs.declared.net.Move.{Move}
 use Rattle.dali_account.specs.Units.{PairKey, Units, units_of}
-use Rattle.dali_account.specs.Book.{same_name, cash, has_account, has_asset, price_of, held}
+use Rattle.dali_account.specs.Book.{cash, has_account, has_asset, price_of, held}
 use Rattle.dali_base.specs.Limits.{most_total}
+use Rattle.dali_base.specs.Readers.{same_bytes}
 use Rattle.dali_account.specs.AssetList.{AssetList, prices, total_at}
 use Rattle.dali_account.specs.BookKept.{IsBalanced}
 use Rattle.dali_account.specs.Net.{IsNet, pair_of, after_move, with_move, with_net, asset_delta}
@@ -19,7 +20,7 @@ use Rattle.dali_account.proofs.PostLemmas.{Ready, ready_start, ready_more, betwe
 
 -- a net is posted but for the rest
 pub record Midway (accounts : List (List ℕ)) (codes : List (List ℕ × ℕ)) (earmarks : Units) (assets : AssetList) (start now : Units) (net rest : List Move) : Type 0 where
-  pub distinct : IsDistinct same_name accounts
+  pub distinct : IsDistinct same_bytes accounts
   pub limit_start : (q : List ℕ) → held accounts start earmarks q ≤ most_total
   pub limit_end : (q : List ℕ) → held accounts (with_net start net) earmarks q ≤ most_total
   pub summed : (q : List ℕ) → pos (held accounts (with_net start net) earmarks q) ≡ pos (held accounts start earmarks q) +ℤ asset_delta net q
@@ -94,7 +95,7 @@ module _ (accounts : List (List ℕ)) (codes : List (List ℕ × ℕ)) (earmarks
 
   -- after the move
   pub midway_more : (new : AssetList) → prices new.listings ≡ prices assets.listings →
-      ((q : List ℕ) → total_at new q ≡ cond (same_name q x.asset) (after_move (total_at assets x.asset) x.delta) (total_at assets q)) →
+      ((q : List ℕ) → total_at new q ≡ cond (same_bytes q x.asset) (after_move (total_at assets x.asset) x.delta) (total_at assets q)) →
       Midway accounts codes earmarks new start (with_move now x) net ms
   midway_more new priced set = record {
     distinct = mid.distinct;
@@ -106,7 +107,7 @@ module _ (accounts : List (List ℕ)) (codes : List (List ℕ × ℕ)) (earmarks
     between = between ms start now x mid.ready.3 mid.between;
     totals = totals;
     known = λ a q absent.
-        let apart : same_pair (a, q) (pair_of x) ≡ false = ap (λ t. t && same_name q x.asset) (other_name accounts x.account a mid.ready.0 absent) in
+        let apart : same_pair (a, q) (pair_of x) ≡ false = ap (λ t. t && same_bytes q x.asset) (other_name accounts x.account a mid.ready.0 absent) in
         let same : units_of (with_move now x) (a, q) ≡ units_of now (a, q) = units_other now (pair_of x) (after_move (units_of now (pair_of x)) x.delta) (a, q) apart in
         let before = mid.known a q absent in
         omega (arith, same, before);
@@ -114,15 +115,15 @@ module _ (accounts : List (List ℕ)) (codes : List (List ℕ × ℕ)) (earmarks
   }
     where
       totals : (q : List ℕ) → total_at new q ≡ held accounts (with_move now x) earmarks q
-      totals q = by (same_name q x.asset) refl
+      totals q = by (same_bytes q x.asset) refl
         where
-          by : (b : Bool) → same_name q x.asset ≡ b → total_at new q ≡ held accounts (with_move now x) earmarks q
+          by : (b : Bool) → same_bytes q x.asset ≡ b → total_at new q ≡ held accounts (with_move now x) earmarks q
           by true e = set q ∙ ap (λ t. cond t (after_move (total_at assets x.asset) x.delta) (total_at assets q)) e ∙ new_total
               ∙ ap (held accounts (with_move now x) earmarks) (sym (same_name_is q x.asset e))
           by false e = set q ∙ ap (λ t. cond t (after_move (total_at assets x.asset) x.delta) (total_at assets q)) e ∙ mid.totals q
               ∙ sym (sum_same (λ a. units_of now (a, q) + units_of earmarks (a, q)) (λ a. units_of (with_move now x) (a, q) + units_of earmarks (a, q)) accounts
               (λ a. let same : units_of (with_move now x) (a, q) ≡ units_of now (a, q) =
-              units_other now (pair_of x) (after_move (units_of now (pair_of x)) x.delta) (a, q) (and_last (same_name a x.account) (same_name q x.asset) e) in
+              units_other now (pair_of x) (after_move (units_of now (pair_of x)) x.delta) (a, q) (and_last (same_bytes a x.account) (same_bytes q x.asset) e) in
               omega (arith, same)))
 
 -- the rest begins with the move at the index

@@ -19,7 +19,7 @@ use Rattle.std.proofs.lemmas.Map.Keys.{IsDistinct-from_sorted}
 use Rattle.std.proofs.lemmas.Map.Views.{All-values_from_lookup}
 use Rattle.dali_account.specs.declared.pairs.Pair.{Pair}
 use Rattle.dali_account.specs.Units.{PairKey, Units, pair_cmp, units_of, some_units}
-use Rattle.dali_account.specs.Book.{same_name}
+use Rattle.dali_base.specs.Readers.{same_bytes}
 use Rattle.dali_account.specs.Pairs.{is_held_by, pair_at}
 use Rattle.dali_account.proofs.UnitsLemmas.{pair_total, pair_antisymmetric, pair_ties, name_ties}
 use Rattle.dali_account.proofs.SumLemmas.{same_name_is}
@@ -51,16 +51,16 @@ sorted_is account [] sorted = refl
 sorted_is account (e ∷ es) sorted = ap (λ t. t && is_sorted pair_cmp (map (under account) es)) (below_is account e.0 es sorted.0) ∙ sorted_is account es sorted.1
 
 -- and so is what is found
-find_under : (account a q : List ℕ) (es : List (List ℕ × ℕ)) → find pair_cmp (a, q) (map (under account) es) ≡ cond (same_name a account) (lookup (is_at (slice_cmp nat_cmp q)) es) None
-find_under account a q [] = by (same_name a account)
+find_under : (account a q : List ℕ) (es : List (List ℕ × ℕ)) → find pair_cmp (a, q) (map (under account) es) ≡ cond (same_bytes a account) (lookup (is_at (slice_cmp nat_cmp q)) es) None
+find_under account a q [] = by (same_bytes a account)
   where
     by : (s : Bool) → ◌≡◌ {A = Option ℕ} None (cond s None None)
     by true = refl
     by false = refl
 find_under account a q (e ∷ es) =
     ap (λ t. cond t (Some e.1) (find pair_cmp (a, q) (map (under account) es))) (sym (pair_ties (a, q) (account, e.0)))
-    ∙ by (same_name a account) (same_name q e.0) (find_under account a q es)
-    ∙ ap (λ t. cond (same_name a account) (cond t (Some e.1) (lookup (is_at (slice_cmp nat_cmp q)) es)) None) (name_ties q e.0)
+    ∙ by (same_bytes a account) (same_bytes q e.0) (find_under account a q es)
+    ∙ ap (λ t. cond (same_bytes a account) (cond t (Some e.1) (lookup (is_at (slice_cmp nat_cmp q)) es)) None) (name_ties q e.0)
   where
     by : (s t : Bool) → find pair_cmp (a, q) (map (under account) es) ≡ cond s (lookup (is_at (slice_cmp nat_cmp q)) es) None →
         cond (s && t) (Some e.1) (find pair_cmp (a, q) (map (under account) es)) ≡ cond s (cond t (Some e.1) (lookup (is_at (slice_cmp nat_cmp q)) es)) None
@@ -114,22 +114,22 @@ module _ (balances : Units) (account : List ℕ) (es : List (List ℕ × ℕ)) (
   pub no_zero_named : All (λ (p : Pair). p.balance ≢ 0) (map named es)
   no_zero_named = some_named es no_zeros
 
-  of_account : ((p : PairKey) → finite.get balances p ≡ some_units (units_of balances p)) → map (under account) es ≡ filter (λ (e : PairKey × ℕ). same_name e.0.0 account) (finite.entries balances)
-  of_account whole = same_entries pair_cmp pair_total pair_antisymmetric (map (under account) es) (filter (λ (e : PairKey × ℕ). same_name e.0.0 account) (finite.entries balances))
+  of_account : ((p : PairKey) → finite.get balances p ≡ some_units (units_of balances p)) → map (under account) es ≡ filter (λ (e : PairKey × ℕ). same_bytes e.0.0 account) (finite.entries balances)
+  of_account whole = same_entries pair_cmp pair_total pair_antisymmetric (map (under account) es) (filter (λ (e : PairKey × ℕ). same_bytes e.0.0 account) (finite.entries balances))
       (subst T (sym (sorted_is account es sorted)) tt)
-      (is_sorted-where_key pair_cmp (λ p. same_name p.0 account) (finite.entries balances) (finite.entries_sorted balances))
-      (λ p. find_under account p.0 p.1 es ∙ by p (same_name p.0 account) refl
-      ∙ sym (find-where_key pair_cmp (λ p. same_name p.0 account) p (λ x tied. ap (λ (r : PairKey). same_name r.0 account) (sym (pair_antisymmetric p x tied))) (finite.entries balances)))
+      (is_sorted-where_key pair_cmp (λ p. same_bytes p.0 account) (finite.entries balances) (finite.entries_sorted balances))
+      (λ p. find_under account p.0 p.1 es ∙ by p (same_bytes p.0 account) refl
+      ∙ sym (find-where_key pair_cmp (λ p. same_bytes p.0 account) p (λ x tied. ap (λ (r : PairKey). same_bytes r.0 account) (sym (pair_antisymmetric p x tied))) (finite.entries balances)))
     where
-      by : (p : PairKey) (s : Bool) → same_name p.0 account ≡ s → cond s (lookup (is_at (slice_cmp nat_cmp p.1)) es) None ≡ cond s (find pair_cmp p (finite.entries balances)) None
+      by : (p : PairKey) (s : Bool) → same_bytes p.0 account ≡ s → cond s (lookup (is_at (slice_cmp nat_cmp p.1)) es) None ≡ cond s (find pair_cmp p (finite.entries balances)) None
       by p true same = found p.1 ∙ ap (λ (a : List ℕ). some_units (units_of balances (a, p.1))) (sym (same_name_is p.0 account same)) ∙ sym (whole p) ∙ finite.get-entries balances p
       by p false apart = refl
 
   pub pairs_are : ((p : PairKey) → finite.get balances p ≡ some_units (units_of balances p)) → map named es ≡ map pair_at (filter (is_held_by account) (finite.entries balances))
   pairs_are whole =
-      let kept : filter (λ (e : PairKey × ℕ). not (eqb e.1 0)) (filter (λ (e : PairKey × ℕ). same_name e.0.0 account) (finite.entries balances)) ≡ map (under account) es =
+      let kept : filter (λ (e : PairKey × ℕ). not (eqb e.1 0)) (filter (λ (e : PairKey × ℕ). same_bytes e.0.0 account) (finite.entries balances)) ≡ map (under account) es =
       ap (filter (λ (e : PairKey × ℕ). not (eqb e.1 0))) (sym (of_account whole)) ∙ all_kept account es no_zeros in
-      sym (pairs_under account es) ∙ ap (map pair_at) (sym (filter_both (λ (e : PairKey × ℕ). same_name e.0.0 account) (λ (e : PairKey × ℕ). not (eqb e.1 0)) (finite.entries balances) ∙ kept))
+      sym (pairs_under account es) ∙ ap (map pair_at) (sym (filter_both (λ (e : PairKey × ℕ). same_bytes e.0.0 account) (λ (e : PairKey × ℕ). not (eqb e.1 0)) (finite.entries balances) ∙ kept))
 
   -- an account without units has none
   pub none_named : ((q : List ℕ) → units_of balances (account, q) ≡ 0) → map named es ≡ []

@@ -3,7 +3,8 @@ use Rattle.std.specs.List.{list_any}
 use Rattle.std.specs.Map.{lookup, keys_of}
 use Rattle.indexmap.proofs.MapLemmas.{some_index}
 use Rattle.dali_base.specs.NameList.{place_of}
-use Rattle.dali_account.specs.Book.{same_name, has_account}
+use Rattle.dali_base.specs.Readers.{same_bytes}
+use Rattle.dali_account.specs.Book.{has_account}
 
 numbered : List (List ℕ) → List (List ℕ × ℕ)
 numbered [] = []
@@ -26,6 +27,6 @@ lookup_numbered test (x ∷ xs) = by (test x) (lookup_numbered test xs)
 -- a name has a place exactly where it is there
 pub known_place : (names : List (List ℕ)) (name : List ℕ) → is_some (place_of names name) ≡ has_account names name
 known_place names name =
-    ap (λ ks. is_some (position (same_name name) ks)) (sym (keys_numbered names))
-    ∙ some_index (same_name name) (numbered names)
-    ∙ lookup_numbered (same_name name) names
+    ap (λ ks. is_some (position (same_bytes name) ks)) (sym (keys_numbered names))
+    ∙ some_index (same_bytes name) (numbered names)
+    ∙ lookup_numbered (same_bytes name) names

@@ -3,10 +3,11 @@ use Rattle.std.proofs.lemmas.Int.{ints}
 use Rattle.std.proofs.lemmas.List.Elements.{All-tail}
 use Rattle.std.specs.Prelude.{All}
 use Rattle.std.specs.List.{AllByRecursion, IsDistinct}
-use Rattle.dali_account.specs.Book.{same_name, has_account, has_asset, held}
+use Rattle.dali_account.specs.Book.{has_account, has_asset, held}
 use Rattle.std.specs.List.Sorted.{IsStrictlySortedBy}
 use Rattle.std.specs.declared.cmp.Ordering.TheVariants.{Less}
 use Rattle.std.specs.Ordering.{is_eq}
+use Rattle.dali_base.specs.Readers.{same_bytes}
 use Rattle.dali_account.specs.declared.net.Move.{Move}
 use Rattle.dali_account.specs.Units.{PairKey, Units, pair_cmp, units_of}
 use Rattle.dali_account.specs.Net.{pair_of, after_move, with_move, with_net, asset_delta}
@@ -99,7 +100,7 @@ after_from_balance n m (pos k) h = omega (arith, ints, h)
 after_from_balance n m (negsuc k) h = omega (arith, ints, h)
 
 -- the units of the move's asset after it
-pub held_after : (accounts : List (List ℕ)) (now earmarks : Units) (x : Move) → IsDistinct same_name accounts → has_account accounts x.account ≡ true →
+pub held_after : (accounts : List (List ℕ)) (now earmarks : Units) (x : Move) → IsDistinct same_bytes accounts → has_account accounts x.account ≡ true →
     pos 0 ≤ℤ (pos (units_of now (pair_of x)) +ℤ x.delta) →
     held accounts (with_move now x) earmarks x.asset + loss x.delta ≡ held accounts now earmarks x.asset + gain x.delta
 held_after accounts now earmarks x distinct there covered =
@@ -107,7 +108,7 @@ held_after accounts now earmarks x distinct there covered =
     let change : after_move (units_of now (pair_of x)) x.delta + loss x.delta ≡ units_of now (pair_of x) + gain x.delta = after_balance (units_of now (pair_of x)) x.delta covered in
     sum_moved (λ a. units_of now (a, x.asset) + units_of earmarks (a, x.asset)) (λ a. units_of (with_move now x) (a, x.asset) + units_of earmarks (a, x.asset)) x.account
     (λ a e. let other : units_of (with_move now x) (a, x.asset) ≡ units_of now (a, x.asset) =
-    units_other now (pair_of x) (after_move (units_of now (pair_of x)) x.delta) (a, x.asset) (ap (λ t. t && same_name x.asset x.asset) (same_name_symm a x.account ∙ e)) in
+    units_other now (pair_of x) (after_move (units_of now (pair_of x)) x.delta) (a, x.asset) (ap (λ t. t && same_bytes x.asset x.asset) (same_name_symm a x.account ∙ e)) in
     omega (arith, other))
     (gain x.delta) (loss x.delta) (omega (arith, own, change)) accounts distinct there
 
@@ -119,12 +120,12 @@ signed n m (pos k) h = omega (arith, ints, h)
 signed n m (negsuc k) h = omega (arith, ints, h)
 
 -- the units of an asset after a move
-held_move : (accounts : List (List ℕ)) (now earmarks : Units) (x : Move) (q : List ℕ) → IsDistinct same_name accounts → has_account accounts x.account ≡ true →
+held_move : (accounts : List (List ℕ)) (now earmarks : Units) (x : Move) (q : List ℕ) → IsDistinct same_bytes accounts → has_account accounts x.account ≡ true →
     pos 0 ≤ℤ (pos (units_of now (pair_of x)) +ℤ x.delta) →
-    pos (held accounts (with_move now x) earmarks q) ≡ pos (held accounts now earmarks q) +ℤ cond (same_name q x.asset) x.delta (pos 0)
-held_move accounts now earmarks x q distinct there covered = by (same_name q x.asset) refl
+    pos (held accounts (with_move now x) earmarks q) ≡ pos (held accounts now earmarks q) +ℤ cond (same_bytes q x.asset) x.delta (pos 0)
+held_move accounts now earmarks x q distinct there covered = by (same_bytes q x.asset) refl
   where
-    by : (b : Bool) → same_name q x.asset ≡ b → pos (held accounts (with_move now x) earmarks q) ≡ pos (held accounts now earmarks q) +ℤ cond b x.delta (pos 0)
+    by : (b : Bool) → same_bytes q x.asset ≡ b → pos (held accounts (with_move now x) earmarks q) ≡ pos (held accounts now earmarks q) +ℤ cond b x.delta (pos 0)
     by true told =
         let own : pos (held accounts (with_move now x) earmarks x.asset) ≡ pos (held accounts now earmarks x.asset) +ℤ x.delta =
         signed (held accounts (with_move now x) earmarks x.asset) (held accounts now earmarks x.asset) x.delta (held_after accounts now earmarks x distinct there covered) in
@@ -133,15 +134,15 @@ held_move accounts now earmarks x q distinct there covered = by (same_name q x.a
         let same : held accounts (with_move now x) earmarks q ≡ held accounts now earmarks q =
         sum_same (λ a. units_of now (a, q) + units_of earmarks (a, q)) (λ a. units_of (with_move now x) (a, q) + units_of earmarks (a, q)) accounts
         (λ a. let stays : units_of (with_move now x) (a, q) ≡ units_of now (a, q) =
-        units_other now (pair_of x) (after_move (units_of now (pair_of x)) x.delta) (a, q) (and_false (same_name a x.account) (same_name q x.asset) told) in
+        units_other now (pair_of x) (after_move (units_of now (pair_of x)) x.delta) (a, q) (and_false (same_bytes a x.account) (same_bytes q x.asset) told) in
         omega (arith, stays)) in
         omega (arith, ints, same)
 
 -- the units of an asset after a net
-pub held_net : (accounts : List (List ℕ)) (codes : List (List ℕ × ℕ)) (earmarks : Units) (q : List ℕ) → IsDistinct same_name accounts → (ms : List Move) (now : Units) → Ready accounts codes now ms →
+pub held_net : (accounts : List (List ℕ)) (codes : List (List ℕ × ℕ)) (earmarks : Units) (q : List ℕ) → IsDistinct same_bytes accounts → (ms : List Move) (now : Units) → Ready accounts codes now ms →
     pos (held accounts (with_net now ms) earmarks q) ≡ pos (held accounts now earmarks q) +ℤ asset_delta ms q
 held_net accounts codes earmarks q distinct [] now ready = omega (arith, ints)
 held_net accounts codes earmarks q distinct (x ∷ ms) now ready =
     let rest = held_net accounts codes earmarks q distinct ms (with_move now x) (ready_more accounts codes now x ms ready.3 ready.4) in
     let first = held_move accounts now earmarks x q distinct ready.0 ready.2 in
-    rest ∙ ap (λ z. z +ℤ asset_delta ms q) first ∙ regroup (pos (held accounts now earmarks q)) (cond (same_name q x.asset) x.delta (pos 0)) (asset_delta ms q)
+    rest ∙ ap (λ z. z +ℤ asset_delta ms q) first ∙ regroup (pos (held accounts now earmarks q)) (cond (same_bytes q x.asset) x.delta (pos 0)) (asset_delta ms q)

@@ -1,8 +1,8 @@
-use Rattle.std.specs.Prelude.{ℕ, ◌+◌, ◌-◌, Bool, ◌&&◌, ◌||◌, List, [], ◌∷◌, sum_by, Option, is_some, nat_eq, refl}
+use Rattle.std.specs.Prelude.{ℕ, ◌+◌, ◌-◌, Bool, ◌&&◌, ◌||◌, List, [], ◌∷◌, sum_by, Option, is_some, refl}
 use Rattle.std.specs.List.{list_any}
 use Rattle.std.specs.Map.{lookup}
-use Rattle.std.specs.Cmp.Lexicographic.{pointwise}
 use Rattle.std.specs.Coded.{Coded, code_by, coded×, coded_ℕ, coded_list, coded_option}
+use Rattle.dali_base.specs.Readers.{same_bytes}
 use Rattle.dali_account.specs.Units.{Units, units_code, units_of, with_units}
 
 -- a book: accounts and codes with their prices, in order of entry, and two finite maps from pairs (account, asset)
@@ -33,22 +33,19 @@ state_code = code_by ((BookRecord × ℕ) × (Option (List ℕ) × Option (List 
     (λ p. record { book = p.0.0; spare_lines = p.0.1; readied_account = p.1.0; readied_code = p.1.1 })
     (λ _. refl)
 
-abbrev pub same_name : List ℕ → List ℕ → Bool
-same_name = pointwise nat_eq
-
 -- the asset of cash, MXN, which isn't among the codes
 abbrev pub cash : List ℕ
 cash = 77 ∷ 88 ∷ 78 ∷ []
 
 abbrev pub has_account : List (List ℕ) → List ℕ → Bool
-has_account accounts account = list_any (same_name account) accounts
+has_account accounts account = list_any (same_bytes account) accounts
 
 abbrev pub price_of : List (List ℕ × ℕ) → List ℕ → Option ℕ
-price_of codes code = lookup (same_name code) codes
+price_of codes code = lookup (same_bytes code) codes
 
 -- a code, or cash
 abbrev pub has_asset : List (List ℕ × ℕ) → List ℕ → Bool
-has_asset codes asset = same_name asset cash || is_some (price_of codes asset)
+has_asset codes asset = same_bytes asset cash || is_some (price_of codes asset)
 
 -- the units of an asset that these accounts hold, free and earmarked
 abbrev pub held : List (List ℕ) → Units → Units → List ℕ → ℕ

@@ -1,15 +1,16 @@
 use Rattle.std.specs.Prelude.{◌≡◌, ℕ, ◌+◌, ◌≤◌, false, List, None, length, min}
 use Rattle.std.specs.List.{IsDistinct}
 use Rattle.dali_base.specs.Limits.{most_total}
+use Rattle.dali_base.specs.Readers.{same_bytes}
 use Rattle.dali_account.specs.Units.{Units, units_of}
-use Rattle.dali_account.specs.Book.{BookState, same_name, cash, has_account, price_of, held}
+use Rattle.dali_account.specs.Book.{BookState, cash, has_account, price_of, held}
 use Rattle.dali_account.specs.Limits.{most_accounts, most_codes}
 use Rattle.dali_account.specs.AssetList.{AssetList, prices, total_at}
 use Rattle.dali_account.specs.declared.book.Book.TheInside.{Inside}
 
 -- the running totals are the sums, at most 10^18 each, only accounts hold units, and cash isn't among the codes
 pub record IsBalanced (accounts : List (List ℕ)) (assets : AssetList) (balances earmarks : Units) : Type 0 where
-  pub distinct : IsDistinct same_name accounts
+  pub distinct : IsDistinct same_bytes accounts
   pub accounts_fit : length accounts ≤ most_accounts
   pub codes_fit : length assets.listings ≤ most_codes
   pub cash_apart : price_of (prices assets.listings) cash ≡ None

@@ -2,7 +2,7 @@ use Rattle.std.specs.Prelude.{◌≡◌, ◌≢◌, ℕ, ℤ, pos, unsigned_abs,
 use Rattle.std.specs.declared.cmp.Ordering.TheVariants.{Less}
 use Rattle.std.specs.List.Sorted.{IsStrictlySortedBy}
 use Rattle.dali_account.specs.declared.net.Move.{Move}
-use Rattle.dali_account.specs.Book.{same_name}
+use Rattle.dali_base.specs.Readers.{same_bytes}
 use Rattle.dali_account.specs.Units.{PairKey, Units, pair_cmp, units_of, with_units}
 
 -- the pair that a move changes
@@ -37,4 +37,4 @@ with_net m net = fold with_move m net
 -- the sum of the deltas of an asset
 abbrev pub asset_delta : List Move → List ℕ → ℤ
 asset_delta [] asset = pos 0
-asset_delta (m ∷ ms) asset = (if same_name asset m.asset then m.delta else pos 0) +ℤ asset_delta ms asset
+asset_delta (m ∷ ms) asset = (if same_bytes asset m.asset then m.delta else pos 0) +ℤ asset_delta ms asset

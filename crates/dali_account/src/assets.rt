@@ -1,8 +1,9 @@
 ghost use Rattle.std.specs.Prelude.{◌≡◌, ℕ, ◌<◌, ◌++◌, [], ◌∷◌, Some, None, List, length, false, true, IsTrue, IsOk, OnOk, OnErr, slice_get, if◌then◌else◌};
 ghost use Rattle.std.specs.Map.{keys_of};
 ghost use Rattle.std.specs.Option.{option_map};
+ghost use Rattle.dali_base.specs.Readers.{same_bytes};
 ghost use Rattle.dali_account.specs.AssetList.{listing_of, prices, total_at};
-ghost use Rattle.dali_account.specs.Book.{same_name, cash, price_of, has_asset};
+ghost use Rattle.dali_account.specs.Book.{cash, price_of, has_asset};
 
 use crate::cash::is_cash;
 use dali_base::{Name, OutOfMemory};
@@ -100,7 +101,7 @@ impl Assets {
     /// Sets the total of an asset.
     pub fn set_total(&mut self, asset: Name, total: u64)
         requires { IsTrue (has_asset (prices self.old.listings) asset) }
-        ensures totals { (other : List ℕ) → total_at self.new other ≡ (if same_name other asset then total else total_at self.old other) }
+        ensures totals { (other : List ℕ) → total_at self.new other ≡ (if same_bytes other asset then total else total_at self.old other) }
         ensures prices { prices self.new.listings ≡ prices self.old.listings }
         ensures readied { self.new.readied ≡ self.old.readied }
     {

@@ -1,5 +1,6 @@
 ghost use Rattle.std.specs.Prelude.{◌≡◌};
-ghost use Rattle.dali_account.specs.Book.{same_name, cash};
+ghost use Rattle.dali_base.specs.Readers.{same_bytes};
+ghost use Rattle.dali_account.specs.Book.{cash};
 
 use dali_base::{Name, read_name};
 
@@ -15,7 +16,7 @@ pub fn cash_name() -> Name
 
 /// Whether the asset is cash.
 pub fn is_cash(asset: Name) -> bool
-    ensures { result ≡ same_name asset cash }
+    ensures { result ≡ same_bytes asset cash }
 {
     asset.bytes() == CASH
 }

@@ -7,13 +7,13 @@ use Rattle.dali_problem.specs.declared.mark.Mark.{Mark}
 use Rattle.dali_problem.specs.declared.mark.Mark.TheVariants.{Stranger, Undecided, Chosen, Left}
 use Rattle.dali_problem.specs.Clearing.{Clearing}
 use Rattle.dali_problem.specs.Limits.{IsProblem}
-use Rattle.dali_problem.specs.Feasible.{ArePlaces, IsFeasible, value_of}
+use Rattle.dali_problem.specs.Feasible.{ArePlaces, IsFeasible, value_of, has}
 use Rattle.dali_problem.specs.Partial.{mark, Agrees}
-use Rattle.dali_problem.specs.Rest.{IsPart}
+use Rattle.dali_problem.specs.Rest.{IsSubset}
 use Rattle.dali_problem.proofs.SetLaws.{is_in, value_in}
 use Rattle.dali_tree.specs.declared.tree.Tree.{Tree}
 use Rattle.dali_fixes.proofs.Sets.{covers_of, goes_of}
-use Rattle.dali_check.specs.Sides.{has, opened}
+use Rattle.dali_check.specs.Sides.{opened}
 use Rattle.dali_check.specs.Proves.{proves_tree}
 use Rattle.dali_check.proofs.Entering.{has_of, given, opened_at, opened_past}
 use Rattle.dali_check.proofs.Trees.{tree_bounds}
@@ -57,7 +57,7 @@ given_unchosen false m none is = none is
 
 -- a set of the members agrees with them undecided among places that are left
 pub agrees_given : (members t : List ℕ) (start f : List Mark) → All (λ m. m ≡ Left) start → ((j : ℕ) → mark f j ≡ given members Undecided start j) →
-    IsPart t members → Agrees f t
+    IsSubset t members → Agrees f t
 agrees_given members t start f idle marks part =
     let at : (j : ℕ) → Contains t j → mark f j ≡ Undecided = λ j there.
     marks j ∙ ap (λ b. if b then Undecided else mark start j) (has_of members j (part.part j there)) in

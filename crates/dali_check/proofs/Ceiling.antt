@@ -17,6 +17,7 @@ use Rattle.dali_problem.specs.Rules.{is_short, is_negative, is_covered, all_belo
 use Rattle.dali_problem.proofs.RuleTests.{undecided_is}
 use Rattle.dali_problem.proofs.SetLaws.{is_in, value_in}
 use Rattle.dali_problem.proofs.SumLaws.{sum_below_zero, sum_below_add, sum_below_le, sum_below_same, sum_below_scale, sum_over_pos}
+use Rattle.dali_problem.specs.Feasible.{has}
 use Rattle.dali_tree.specs.declared.fix.Fix.{Fix}
 use Rattle.dali_tree.specs.declared.fix.Fix.TheVariants.{Barred, Needed, Safe}
 use Rattle.dali_tree.specs.declared.tree.Tree.{Tree}
@@ -28,7 +29,7 @@ use Rattle.dali_tree.specs.declared.choice.Part.{Part}
 use Rattle.dali_tree.specs.declared.choice.Choice.{Choice}
 use Rattle.dali_tree.specs.Fits.{AreRising}
 use Rattle.dali_tree.specs.Range.{IsInRange}
-use Rattle.dali_lagrange.specs.Bound.{sum_of, counted}
+use Rattle.dali_lagrange.specs.Bound.{sum_of, count_of}
 use Rattle.dali_lagrange.specs.Multipliers.{multiplier}
 use Rattle.dali_lagrange.specs.Settled.{is_still_at, is_settled}
 use Rattle.dali_lagrange.proofs.Regroup.{pick_scale}
@@ -36,7 +37,7 @@ use Rattle.dali_lagrange.proofs.SettledLaws.{le_decides, lt_decides}
 use Rattle.dali_lagrange.proofs.Zero.{zero_sum_is}
 use Rattle.dali_fixes.specs.Fixed.{place_of, becomes, holds, after}
 use Rattle.dali_fixes.proofs.Sets.{worth_of}
-use Rattle.dali_check.specs.Sides.{has, opened, when_fixed}
+use Rattle.dali_check.specs.Sides.{opened, when_fixed}
 use Rattle.dali_check.specs.Proves.{closes}
 use Rattle.dali_check.specs.Lean.{reaches, is_reduced, is_open, is_nearest, is_worked, is_finished, is_led, is_tight, lean_end, lean_tree, tight_end, tight_tree, lean_part}
 use Rattle.dali_check.specs.Ends.{lean_ends, tight_ends}
@@ -100,9 +101,9 @@ among_after p members (fix ∷ fixes) f g leads among = elim (cases_Bool (holds 
     none_some g is = cc
 
 -- with all multipliers 0 the Sum is at most what the members are worth
-counted_most : (m : Mark) (b : Bool) (z : ℤ) → (b ≡ false → m ≡ Stranger) → pos 0 ≤ℤ z → counted m z ≤ℤ pick b z
+counted_most : (m : Mark) (b : Bool) (z : ℤ) → (b ≡ false → m ≡ Stranger) → pos 0 ≤ℤ z → count_of m z ≤ℤ pick b z
 counted_most m false z outside up =
-    let gone : counted m z ≡ counted Stranger z = ap (λ k. counted k z) (outside refl) in
+    let gone : count_of m z ≡ count_of Stranger z = ap (λ k. count_of k z) (outside refl) in
     omega (arith, ints, gone)
 counted_most Stranger true z outside up = omega (arith, ints, up)
 counted_most Undecided true z outside up = omega (arith, ints, clamps, up)
@@ -111,7 +112,7 @@ counted_most Left true z outside up = omega (arith, ints, up)
 
 zero_most : (p : Clearing) (members : List ℕ) (f : List Mark) → AreAmong members f → sum_of p f (λ _. 0) ≤ℤ (pos 4096 *ℤ worth_of p (has members))
 zero_most p members f among =
-    let each = sum_below_le (λ j. counted (mark f j) (pos 4096 *ℤ pos (worth p j))) (λ j. pick (has members j) (pos 4096 *ℤ pos (worth p j))) (length p.items)
+    let each = sum_below_le (λ j. count_of (mark f j) (pos 4096 *ℤ pos (worth p j))) (λ j. pick (has members j) (pos 4096 *ℤ pos (worth p j))) (length p.items)
     (λ j below. counted_most (mark f j) (has members j) (pos 4096 *ℤ pos (worth p j)) (among.outside j) (omega (arith, ints))) in
     let scale = sum_below_scale (pos 4096) (λ j. pick (has members j) (pos (worth p j))) (length p.items) in
     let picks = sum_below_same (λ j. pos 4096 *ℤ pick (has members j) (pos (worth p j)))

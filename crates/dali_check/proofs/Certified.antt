@@ -4,7 +4,7 @@ use Rattle.std.specs.Int.Signed.{le_z}
 use Rattle.std.proofs.lemmas.Bool.{cases_Bool, cases_eq, cases_lt}
 use Rattle.std.proofs.lemmas.List.{get_or_default}
 use Rattle.dali_problem.specs.Clearing.{Clearing}
-use Rattle.dali_problem.specs.Feasible.{IsFeasible, booked, value_of}
+use Rattle.dali_problem.specs.Feasible.{IsFeasible, booked, value_of, has}
 use Rattle.dali_tree.specs.declared.choice.Part.{Part}
 use Rattle.dali_tree.specs.declared.choice.Choice.{Choice}
 use Rattle.dali_rest.specs.Addable.{CanAddRest}
@@ -12,7 +12,6 @@ use Rattle.dali_rest.specs.Swappable.{CanSwap}
 use Rattle.dali_lagrange.proofs.SettledLaws.{le_decides}
 use Rattle.dali_check.specs.declared.reason.NotAllowed.{NotAllowed}
 use Rattle.dali_check.specs.declared.reason.NotAllowed.TheVariants.{Members, Shared, Infeasible, Addable, Swappable, Unproved, NotLean, Overspent, Idle}
-use Rattle.dali_check.specs.Sides.{has}
 use Rattle.dali_check.specs.Proves.{proves_part}
 use Rattle.dali_check.specs.Lean.{lean_part}
 use Rattle.dali_check.specs.Parts.{some_has, ArePartition, changes, AreSeparate, value_in_part, bound_of, branchings_of}

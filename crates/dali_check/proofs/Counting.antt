@@ -7,11 +7,11 @@ use Rattle.dali_problem.specs.Sums.{sum_below, pick}
 use Rattle.dali_problem.specs.Clearing.{Clearing}
 use Rattle.dali_problem.specs.Limits.{IsProblem}
 use Rattle.dali_problem.proofs.SumLaws.{sum_below_add, sum_below_same}
+use Rattle.dali_problem.specs.Feasible.{has}
 use Rattle.dali_tree.specs.declared.choice.Part.{Part}
 use Rattle.dali_tree.specs.declared.choice.Choice.{Choice}
 use Rattle.dali_tree.specs.Fits.{AreRising}
 use Rattle.dali_tree.specs.Range.{IsInRange}
-use Rattle.dali_check.specs.Sides.{has}
 use Rattle.dali_check.specs.Parts.{some_has}
 use Rattle.dali_check.specs.Allowed.{IsWhole}
 use Rattle.dali_check.proofs.Entering.{has_at}

@@ -11,9 +11,10 @@ use Rattle.dali_problem.specs.declared.mark.Mark.{Mark}
 use Rattle.dali_problem.specs.declared.mark.Mark.TheVariants.{Stranger, Undecided, Left}
 use Rattle.dali_problem.specs.Partial.{mark, is_undecided, is_chosen}
 use Rattle.dali_problem.specs.Kept.{AllUndecided}
+use Rattle.dali_problem.specs.Feasible.{has}
 use Rattle.dali_tree.specs.Fits.{AreRising}
 use Rattle.dali_fixes.proofs.Undoing.{undecided_again}
-use Rattle.dali_check.specs.Sides.{has, opened}
+use Rattle.dali_check.specs.Sides.{opened}
 use Rattle.dali_check.proofs.Alike.{Like}
 
 -- a place that was decided and is undecided again

@@ -6,8 +6,8 @@ use Rattle.std.proofs.lemmas.Bool.Decides.{eqb_tells, Decides-by_and, Decides-li
 use Rattle.std.proofs.lemmas.List.{take_more, get_or-set_same, get_or-set_other, get_or-take, length-take-le}
 use Rattle.std.proofs.lemmas.List.Folds.{list_any-append}
 use Rattle.std.proofs.lemmas.List.Quantifiers.{all_pairs_push}
+use Rattle.dali_problem.specs.Feasible.{has}
 use Rattle.dali_tree.specs.declared.choice.Part.{Part}
-use Rattle.dali_check.specs.Sides.{has}
 use Rattle.dali_check.proofs.Entering.{has_push, has_at, contains_has}
 
 -- the keys of two parts, places or lines, have none in common

@@ -18,11 +18,11 @@ use Rattle.dali_lagrange.specs.Settled.{changed, is_gain, is_still_at, is_settle
 use Rattle.dali_lagrange.proofs.SettledLaws.{settled_same}
 use Rattle.dali_check.specs.Lean.{reaches, nearness}
 use Rattle.dali_check.specs.Proves.{closes}
-use Rattle.dali_check.specs.Room.{StandsFor, as_member}
+use Rattle.dali_check.specs.Room.{IsSumFor, as_member}
 use Rattle.dali_check.proofs.Alike.{Like, sum_like, all_below_same}
 use Rattle.dali_check.proofs.Points.{sum_at, reduced_at}
 
-pub like_of : (p : Clearing) (lam : List (ℕ × ℕ)) (f : List Mark) (kept : KeptSum) → StandsFor p lam f kept → Like f kept.marks
+pub like_of : (p : Clearing) (lam : List (ℕ × ℕ)) (f : List Mark) (kept : KeptSum) → IsSumFor p lam f kept → Like f kept.marks
 like_of p lam f kept stands = record {
   size = stands.size ∙ sym stands.of.marks;
   undecided = stands.undecided;
@@ -30,7 +30,7 @@ like_of p lam f kept stands = record {
 }
 
 -- the kept Sum is that of the partial choice at the multipliers
-pub stands_sum : (p : Clearing) (lam : List (ℕ × ℕ)) (f : List Mark) (kept : KeptSum) → StandsFor p lam f kept →
+pub stands_sum : (p : Clearing) (lam : List (ℕ × ℕ)) (f : List Mark) (kept : KeptSum) → IsSumFor p lam f kept →
     sum_of p kept.marks (λ l. get_or kept.multipliers l 0) ≡ sum_of p f (multiplier lam)
 stands_sum p lam f kept stands =
     sum_at p kept.marks (λ l. get_or kept.multipliers l 0) (multiplier lam) stands.multipliers
@@ -51,13 +51,13 @@ settled_like p f g lam like =
     ∙ ap (λ b. le_z (sum_of p g lam) (sum_of p g (λ _. 0)) && (lt_z (sum_of p g lam) (pos 4096) || b))
     (all_below_same (is_still_at p f lam) (is_still_at p g lam) (length p.lines) (λ l below. still_like p f g lam l like))
 
-pub stands_settled : (p : Clearing) (lam : List (ℕ × ℕ)) (f : List Mark) (kept : KeptSum) → StandsFor p lam f kept →
+pub stands_settled : (p : Clearing) (lam : List (ℕ × ℕ)) (f : List Mark) (kept : KeptSum) → IsSumFor p lam f kept →
     is_settled p kept.marks (λ l. get_or kept.multipliers l 0) ≡ is_settled p f (multiplier lam)
 stands_settled p lam f kept stands =
     settled_same p kept.marks (λ l. get_or kept.multipliers l 0) (multiplier lam) stands.multipliers
     ∙ sym (settled_like p f kept.marks (multiplier lam) (like_of p lam f kept stands))
 
-pub stands_nearness : (p : Clearing) (lam : List (ℕ × ℕ)) (f : List Mark) (kept : KeptSum) (j : ℕ) → StandsFor p lam f kept →
+pub stands_nearness : (p : Clearing) (lam : List (ℕ × ℕ)) (f : List Mark) (kept : KeptSum) (j : ℕ) → IsSumFor p lam f kept →
     unsigned_abs (reduced p (λ l. get_or kept.multipliers l 0) j) ≡ nearness p lam j
 stands_nearness p lam f kept j stands = ap unsigned_abs (reduced_at p (λ l. get_or kept.multipliers l 0) (multiplier lam) j stands.multipliers)
 

@@ -10,7 +10,7 @@ use Rattle.dali_problem.specs.declared.mark.Mark.TheVariants.{Stranger, Undecide
 use Rattle.dali_problem.specs.Sums.{pick}
 use Rattle.dali_problem.specs.Clearing.{Clearing, worth, effect}
 use Rattle.dali_problem.specs.Limits.{IsProblem}
-use Rattle.dali_problem.specs.Feasible.{ArePlaces, IsFeasible, value_of}
+use Rattle.dali_problem.specs.Feasible.{ArePlaces, IsFeasible, value_of, has}
 use Rattle.dali_problem.specs.Partial.{mark}
 use Rattle.dali_problem.proofs.SumLaws.{sum_below_zero, sum_below_add, sum_below_same}
 use Rattle.dali_problem.proofs.SetLaws.{is_in, value_in}
@@ -20,7 +20,7 @@ use Rattle.dali_tree.specs.declared.choice.Choice.{Choice}
 use Rattle.dali_tree.specs.Fits.{AreRising}
 use Rattle.dali_tree.specs.Range.{IsInRange}
 use Rattle.dali_fixes.proofs.Sets.{total, worth_of, Covers, Goes, covers_of}
-use Rattle.dali_check.specs.Sides.{has, opened}
+use Rattle.dali_check.specs.Sides.{opened}
 use Rattle.dali_check.specs.Proves.{proves_part}
 use Rattle.dali_check.specs.Parts.{some_has, ArePartition, changes, AreSeparate, bound_of}
 use Rattle.dali_check.specs.Allowed.{IsWhole}

@@ -8,7 +8,7 @@ use Rattle.dali_problem.specs.Clearing.{Clearing, balance, worth, effect}
 use Rattle.dali_problem.specs.Partial.{mark}
 use Rattle.dali_problem.proofs.IntegerLaws.{mul_nonneg}
 use Rattle.dali_problem.proofs.SumLaws.{sum_below_zero, sum_below_scale, sum_below_same, sum_below_le}
-use Rattle.dali_lagrange.specs.Bound.{reduced, sum_of, counted}
+use Rattle.dali_lagrange.specs.Bound.{reduced, sum_of, count_of}
 use Rattle.dali_lagrange.specs.Multipliers.{multiplier}
 use Rattle.dali_lagrange.proofs.Regroup.{regroup, pick_scale}
 use Rattle.dali_lagrange.proofs.Whole.{lines_and_places}
@@ -17,7 +17,7 @@ use Rattle.dali_check.specs.Proves.{closes}
 
 -- a place counts at least what it gives, in the set or not
 place_le : (m : Mark) (b : Bool) (z : ℤ) → (m ≡ Chosen → b ≡ true) → (m ≡ Stranger → b ≡ false) → (m ≡ Left → b ≡ false) →
-    pick b z ≤ℤ counted m z
+    pick b z ≤ℤ count_of m z
 place_le Chosen b z chosen stranger left =
     let taken : pick b z ≡ z = ap (λ c. pick c z) (chosen refl) in
     omega (arith, ints, taken)
@@ -50,7 +50,7 @@ weak_by p f lam w covers goes =
     (λ j below. pick_scale (w j) (pos 4096) (pos (worth p j))) in
     let whole = regroup w (λ j. pos 4096 *ℤ pos (worth p j)) (λ l. pos (lam l)) (balance p) (effect p) (length p.lines) (length p.items) in
     let covered = lines_nonneg p w lam covers in
-    let each = sum_below_le (λ j. pick (w j) (reduced p lam j)) (λ j. counted (mark f j) (reduced p lam j)) (length p.items)
+    let each = sum_below_le (λ j. pick (w j) (reduced p lam j)) (λ j. count_of (mark f j) (reduced p lam j)) (length p.items)
     (λ j below. place_le (mark f j) (w j) (reduced p lam j) (goes.chosen j) (goes.stranger j) (goes.left j)) in
     let sum = lines_and_places p f lam in
     omega (arith, ints, scale, picks, whole, covered, each, sum)

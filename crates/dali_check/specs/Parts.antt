@@ -2,10 +2,9 @@ use Rattle.std.specs.Prelude.{◌≡◌, ℕ, ◌<◌, pos, Bool, false, IsTrue,
 use Rattle.std.specs.List.{All, AllPairs, list_any, filter}
 use Rattle.std.specs.Ordering.{int_eq}
 use Rattle.dali_problem.specs.Clearing.{Clearing, effect}
-use Rattle.dali_problem.specs.Feasible.{value_of}
+use Rattle.dali_problem.specs.Feasible.{value_of, has}
 use Rattle.dali_tree.specs.Tree.{branch_count}
 use Rattle.dali_tree.specs.declared.choice.Part.{Part}
-use Rattle.dali_check.specs.Sides.{has}
 
 -- whether some part has place j
 abbrev pub some_has : List Part → ℕ → Bool

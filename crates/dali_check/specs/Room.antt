@@ -34,7 +34,7 @@ pub record IsFor (p : Clearing) (scratch : ScratchState) : Type 0 where
   pub lines : scratch.lines ≡ length p.lines
 
 -- kept sums stand for a partial choice at multipliers; what is a stranger there may be left here
-pub record StandsFor (p : Clearing) (lam : List (ℕ × ℕ)) (f : List Mark) (kept : KeptSum) : Type 0 where
+pub record IsSumFor (p : Clearing) (lam : List (ℕ × ℕ)) (f : List Mark) (kept : KeptSum) : Type 0 where
   pub of : IsSumOf p kept
   pub size : length f ≡ length p.items
   pub undecided : (j : ℕ) → is_undecided (mark f j) ≡ is_undecided (mark kept.marks j)

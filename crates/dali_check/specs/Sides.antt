@@ -1,11 +1,8 @@
-use Rattle.std.specs.Prelude.{ℕ, ◌==◌, Bool, false, List, map, Option, Some, None, if◌then◌else◌}
-use Rattle.std.specs.List.{list_any, range_with_len}
+use Rattle.std.specs.Prelude.{ℕ, Bool, false, List, map, Option, Some, None, if◌then◌else◌}
+use Rattle.std.specs.List.{range_with_len}
 use Rattle.dali_problem.specs.declared.mark.Mark.{Mark}
 use Rattle.dali_problem.specs.declared.mark.Mark.TheVariants.{Stranger, Undecided}
-
--- whether j is among these places
-abbrev pub has : List ℕ → ℕ → Bool
-has places j = list_any (λ k. k == j) places
+use Rattle.dali_problem.specs.Feasible.{has}
 
 -- the partial choice, among n places, in which these members are undecided and there are no others
 abbrev pub opened : ℕ → List ℕ → List Mark

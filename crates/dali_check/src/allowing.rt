@@ -3,7 +3,7 @@ ghost use Rattle.std.specs.List.{All, Any, filter};
 ghost use Rattle.dali_base.specs.Limits.{most_items};
 ghost use Rattle.dali_problem.specs.declared.mark.Mark.TheVariants.{Left};
 ghost use Rattle.dali_problem.specs.Kept.{IsOf};
-ghost use Rattle.dali_problem.specs.Feasible.{ArePlaces, IsFeasible, value_of};
+ghost use Rattle.dali_problem.specs.Feasible.{ArePlaces, IsFeasible, value_of, has};
 ghost use Rattle.dali_tree.specs.Range.{IsPartInRange, IsInRange};
 ghost use Rattle.dali_rest.specs.Addable.{CanAddOne, CanAddRest};
 ghost use Rattle.dali_rest.specs.Swappable.{CanSwap};
@@ -14,7 +14,6 @@ ghost use Rattle.dali_check.specs.Lean.{lean_part};
 ghost use Rattle.dali_check.specs.Parts.{bound_of, value_in_part};
 ghost use Rattle.dali_check.specs.Proves.{proves_part};
 ghost use Rattle.dali_check.specs.Room.{IsReady, IsFor};
-ghost use Rattle.dali_check.specs.Sides.{has};
 
 use crate::apart::{are_partition, are_separate, mark_all};
 use crate::leaning::lean_with;

@@ -2,8 +2,8 @@ ghost use Rattle.std.specs.Prelude.{◌≡◌, ℕ, ◌<◌, ◌==◌, ◌↔◌
 ghost use Rattle.std.specs.List.{All, AllPairs, list_any, list_all};
 ghost use Rattle.dali_problem.specs.Clearing.{Clearing, item_at, effect};
 ghost use Rattle.dali_problem.specs.Limits.{AreEffects};
+ghost use Rattle.dali_problem.specs.Feasible.{has};
 ghost use Rattle.dali_tree.specs.Range.{IsPartInRange};
-ghost use Rattle.dali_check.specs.Sides.{has};
 ghost use Rattle.dali_check.specs.Parts.{some_has, ArePartition, changes, AreSeparate};
 
 use dali_problem::{Effect, Problem};

@@ -3,8 +3,8 @@ ghost use Rattle.std.specs.List.{All};
 ghost use Rattle.dali_problem.specs.declared.mark.Mark.TheVariants.{Undecided, Left};
 ghost use Rattle.dali_problem.specs.Partial.{mark};
 ghost use Rattle.dali_problem.specs.Kept.{IsOf};
+ghost use Rattle.dali_problem.specs.Feasible.{has};
 ghost use Rattle.dali_tree.specs.Fits.{AreRising};
-ghost use Rattle.dali_check.specs.Sides.{has};
 
 use dali_problem::{Partial, Problem};
 

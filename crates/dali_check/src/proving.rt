@@ -1,7 +1,7 @@
 ghost use Rattle.std.specs.Prelude.{◌≡◌, ℕ, ◌≤◌, List, length, IsTrue, slice_set, if◌then◌else◌};
 ghost use Rattle.dali_problem.specs.declared.mark.Mark.TheVariants.{Undecided, Chosen, Left};
 ghost use Rattle.dali_problem.specs.Feasible.{ArePlaces, IsFeasible, value_of};
-ghost use Rattle.dali_problem.specs.Rest.{IsPart};
+ghost use Rattle.dali_problem.specs.Rest.{IsSubset};
 ghost use Rattle.dali_problem.specs.Partial.{mark, Agrees};
 ghost use Rattle.dali_problem.specs.Kept.{IsOf};
 ghost use Rattle.dali_tree.specs.Range.{lam_in_range, tree_in_range, IsPartInRange};
@@ -26,7 +26,7 @@ pub fn proves(problem: &Problem, part: &Part, scratch: &mut Scratch) -> bool
     requires made { IsFor problem.now scratch.old }
     requires in_range { IsPartInRange (length problem.now.items) (length problem.now.lines) part.now }
     ensures answer { result ≡ proves_part problem.now part.now }
-    ensures bound { IsTrue result → (t : List ℕ) → ArePlaces problem.now t → IsFeasible problem.now t → IsPart t part.now.members →
+    ensures bound { IsTrue result → (t : List ℕ) → ArePlaces problem.now t → IsFeasible problem.now t → IsSubset t part.now.members →
         value_of problem.now t ≤ part.now.bound }
     ensures made { IsFor problem.now scratch.new }
 {

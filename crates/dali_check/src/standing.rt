@@ -11,7 +11,7 @@ ghost use Rattle.dali_tree.specs.Range.{lam_in_range};
 ghost use Rattle.dali_lagrange.specs.KeptSum.{IsSumOf};
 ghost use Rattle.dali_lagrange.specs.Limits.{scale};
 ghost use Rattle.dali_check.specs.Lean.{reaches, nearness, is_nearest, is_worked, is_tight};
-ghost use Rattle.dali_check.specs.Room.{IsReady, StandsFor, as_member};
+ghost use Rattle.dali_check.specs.Room.{IsReady, IsSumFor, as_member};
 
 use crate::reduced::is_reduced;
 use dali_lagrange::Kept;
@@ -29,7 +29,7 @@ pub(crate) fn take_on(problem: &Problem, lam: &Lam, partial: &Partial, kept: &mu
     requires ready { IsReady problem.now kept.old }
     requires in_range { IsTrue (lam_in_range (length problem.now.lines) lam.now) }
     ensures ready { IsReady problem.now kept.new }
-    ensures stands { StandsFor problem.now lam.now partial.now.marks kept.new }
+    ensures stands { IsSumFor problem.now lam.now partial.now.marks kept.new }
 {
     align(problem, partial, kept);
     kept.load(problem, lam);
@@ -102,7 +102,7 @@ fn release(problem: &Problem, place: u32, kept: &mut Kept)
 /// Whether the bound of the multipliers is at least this, in centavos.
 #[tactic(auto, unfolding(crate::specs::Lean::reaches))]
 pub(crate) fn reaches(kept: &Kept, bound: u64) -> bool
-    ensures { (p : Clearing) (lam : List (ℕ × ℕ)) (f : List Mark) → StandsFor p lam f kept.now → result ≡ reaches p bound lam f }
+    ensures { (p : Clearing) (lam : List (ℕ × ℕ)) (f : List Mark) → IsSumFor p lam f kept.now → result ≡ reaches p bound lam f }
 {
     is_at_least(&kept.sum(), bound)
 }
@@ -110,14 +110,14 @@ pub(crate) fn reaches(kept: &Kept, bound: u64) -> bool
 /// Whether the bound of the multipliers is above this, in centavos.
 #[tactic(auto, unfolding(crate::specs::Lean::reaches))]
 pub(crate) fn exceeds(kept: &Kept, value: u64) -> bool
-    ensures { (p : Clearing) (lam : List (ℕ × ℕ)) (f : List Mark) → StandsFor p lam f kept.now → result ≡ reaches p (value + 1) lam f }
+    ensures { (p : Clearing) (lam : List (ℕ × ℕ)) (f : List Mark) → IsSumFor p lam f kept.now → result ≡ reaches p (value + 1) lam f }
 {
     is_above(&kept.sum(), value)
 }
 
 /// Whether the bound of the multipliers is this, in centavos.
 pub(crate) fn is_tight(kept: &Kept, bound: u64) -> bool
-    ensures { (p : Clearing) (lam : List (ℕ × ℕ)) (f : List Mark) → StandsFor p lam f kept.now → result ≡ is_tight p bound lam f }
+    ensures { (p : Clearing) (lam : List (ℕ × ℕ)) (f : List Mark) → IsSumFor p lam f kept.now → result ≡ is_tight p bound lam f }
 {
     reaches(kept, bound) && !exceeds(kept, bound)
 }
@@ -140,7 +140,7 @@ fn is_above(sum: &i128, value: u64) -> bool
 pub(crate) fn is_worked(problem: &Problem, partial: &Partial, kept: &Kept) -> bool
     requires of { IsOf problem.now partial.now }
     requires kept { IsSumOf problem.now kept.now }
-    ensures { (lam : List (ℕ × ℕ)) → StandsFor problem.now lam partial.now.marks kept.now → result ≡ is_worked problem.now lam partial.now.marks }
+    ensures { (lam : List (ℕ × ℕ)) → IsSumFor problem.now lam partial.now.marks kept.now → result ≡ is_worked problem.now lam partial.now.marks }
 {
     kept.is_settled(problem) && is_reduced(problem, partial)
 }
@@ -151,7 +151,7 @@ pub(crate) fn is_nearest(problem: &Problem, partial: &Partial, kept: &Kept, plac
     requires of { IsOf problem.now partial.now }
     requires kept { IsSumOf problem.now kept.now }
     requires place { place < length problem.now.items }
-    ensures answer { (lam : List (ℕ × ℕ)) → StandsFor problem.now lam partial.now.marks kept.now → result ≡ is_nearest problem.now lam partial.now.marks place }
+    ensures answer { (lam : List (ℕ × ℕ)) → IsSumFor problem.now lam partial.now.marks kept.now → result ≡ is_nearest problem.now lam partial.now.marks place }
     ensures undecided { IsTrue result → mark partial.now.marks place ≡ Undecided }
 {
     if !partial.mark(place).is_undecided() {
@@ -171,7 +171,7 @@ fn is_behind(problem: &Problem, partial: &Partial, kept: &Kept, place: u32, othe
     requires kept { IsSumOf problem.now kept.now }
     requires place { place < length problem.now.items }
     requires other { other < length problem.now.items }
-    ensures { (lam : List (ℕ × ℕ)) → StandsFor problem.now lam partial.now.marks kept.now → result
+    ensures { (lam : List (ℕ × ℕ)) → IsSumFor problem.now lam partial.now.marks kept.now → result
         ≡ (not (is_undecided (mark partial.now.marks other))
         || (if nat_lt other place then nat_lt (nearness problem.now lam place) (nearness problem.now lam other)
         else nat_le (nearness problem.now lam place) (nearness problem.now lam other))) }
@@ -195,7 +195,7 @@ fn is_ahead(near: u128, far: u128, strictly: bool) -> bool
 /// The size of a place's reduced value.
 fn nearness(kept: &Kept, place: u32) -> u128
     requires { place < length kept.now.reduced }
-    ensures { (p : Clearing) (lam : List (ℕ × ℕ)) (f : List Mark) → StandsFor p lam f kept.now → result ≡ nearness p lam place }
+    ensures { (p : Clearing) (lam : List (ℕ × ℕ)) (f : List Mark) → IsSumFor p lam f kept.now → result ≡ nearness p lam place }
 {
     kept.reduced(place).unsigned_abs()
 }

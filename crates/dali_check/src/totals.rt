@@ -1,11 +1,10 @@
 ghost use Rattle.std.specs.Prelude.{◌≡◌, ℕ, ◌+◌, ◌*◌, ◌^◌, ◌<◌, ◌≤◌, ◌↔◌, false, List, length, slice_index_or, IsTrue, IfSome, IfNone, sum_by};
 ghost use Rattle.std.specs.List.{All, filter};
-ghost use Rattle.dali_problem.specs.Feasible.{value_of};
+ghost use Rattle.dali_problem.specs.Feasible.{value_of, has};
 ghost use Rattle.dali_problem.specs.Limits.{IsProblem};
 ghost use Rattle.dali_tree.specs.Fits.{AreRising};
 ghost use Rattle.dali_tree.specs.Tree.{branch_count};
 ghost use Rattle.dali_tree.specs.Ends.{end_count};
-ghost use Rattle.dali_check.specs.Sides.{has};
 ghost use Rattle.dali_check.specs.Parts.{bound_of, branchings_of};
 
 use dali_problem::Problem;

@@ -8,7 +8,7 @@ use Rattle.dali_problem.specs.declared.mark.Mark.{Mark}
 use Rattle.dali_problem.specs.declared.mark.Mark.TheVariants.{Stranger, Undecided, Chosen, Left}
 use Rattle.dali_problem.specs.Sums.{pick}
 use Rattle.dali_problem.specs.Clearing.{Clearing, balance, effect}
-use Rattle.dali_problem.specs.Feasible.{ArePlaces, IsFeasible}
+use Rattle.dali_problem.specs.Feasible.{has as is_member, ArePlaces, IsFeasible}
 use Rattle.dali_problem.specs.Limits.{IsProblem}
 use Rattle.dali_problem.specs.Partial.{mark, is_chosen, is_undecided, held, Agrees}
 use Rattle.dali_problem.specs.Rest.{IsRest}
@@ -16,9 +16,8 @@ use Rattle.dali_problem.proofs.RuleTests.{undecided_is}
 use Rattle.dali_problem.proofs.SetLaws.{is_in, contains_of}
 use Rattle.dali_problem.proofs.SumLaws.{sum_below_same}
 use Rattle.dali_rest.specs.Addable.{CanAddRest}
-use Rattle.dali_rest.specs.Room.{StandsFor, undecided_below}
+use Rattle.dali_rest.specs.Room.{AreMarksOf, undecided_below}
 use Rattle.dali_rest.specs.Sets.{outside}
-use Rattle.dali_rest.specs.Sets.{is_in as is_member}
 use Rattle.dali_rest.specs.Turns.{AreChosen}
 use Rattle.dali_rest.proofs.Marks.{within_chosen}
 use Rattle.dali_rest.proofs.Resting.{below_range, below_has, has_below}
@@ -68,26 +67,26 @@ at_goes n f g size_f size_g all = record {
     here j chosen = ap (agrees_at (mark f j)) (sym (ap is_chosen chosen)) ∙ all j (omega (arith, within_chosen g j chosen, size_g))
 
 -- the same of a set and its marks
-pub agrees_goes : (p : Clearing) (f g : List Mark) (s : List ℕ) → length g ≡ length p.items → StandsFor (length p.items) s g → Agrees f s → GoesWith f g
+pub agrees_goes : (p : Clearing) (f g : List Mark) (s : List ℕ) → length g ≡ length p.items → AreMarksOf (length p.items) s g → Agrees f s → GoesWith f g
 agrees_goes p f g s size stands agrees = record {
   members = (λ j chosen. agrees.members j (stands_in p s g j stands (omega (arith, within_chosen g j chosen, size)) chosen));
   chosen = (λ j chosen. stands.chosen j (agrees.chosen j chosen));
   left = (λ j chosen. agrees.left j (stands_in p s g j stands (omega (arith, within_chosen g j chosen, size)) chosen));
 }
 
-pub goes_agrees : (p : Clearing) (f g : List Mark) (s : List ℕ) → length g ≡ length p.items → StandsFor (length p.items) s g → GoesWith f g → Agrees f s
+pub goes_agrees : (p : Clearing) (f g : List Mark) (s : List ℕ) → length g ≡ length p.items → AreMarksOf (length p.items) s g → GoesWith f g → Agrees f s
 goes_agrees p f g s size stands goes = record {
   members = (λ j there. goes.members j (stands.chosen j there));
   chosen = (λ j chosen. let now = goes.chosen j chosen in stands_in p s g j stands (omega (arith, within_chosen g j now, size)) now);
   left = (λ j there. goes.left j (stands.chosen j there));
 }
 
-pub holds_feasible : (p : Clearing) (g : List Mark) (s : List ℕ) → ArePlaces p s → StandsFor (length p.items) s g → Holds p g → IsFeasible p s
+pub holds_feasible : (p : Clearing) (g : List Mark) (s : List ℕ) → ArePlaces p s → AreMarksOf (length p.items) s g → Holds p g → IsFeasible p s
 holds_feasible p g s places stands holds = record {
   covered = (λ l below. subst (λ z. pos 0 ≤ℤ z) (stands_held p s g l places stands) (holds.covered l below));
 }
 
-pub feasible_holds : (p : Clearing) (g : List Mark) (s : List ℕ) → ArePlaces p s → StandsFor (length p.items) s g → IsFeasible p s → Holds p g
+pub feasible_holds : (p : Clearing) (g : List Mark) (s : List ℕ) → ArePlaces p s → AreMarksOf (length p.items) s g → IsFeasible p s → Holds p g
 feasible_holds p g s places stands feasible = record {
   covered = (λ l below. subst (λ z. pos 0 ≤ℤ z) (sym (stands_held p s g l places stands)) (feasible.covered l below));
 }
@@ -96,14 +95,14 @@ pub overdrawn_not : (p : Clearing) (g : List Mark) → IsOverdrawn p g → ¬ (H
 overdrawn_not p g over holds = absurd (omega (arith, ints, over.negative, holds.covered over.line over.within))
 
 -- the chosen places alone
-pub chosen_goes : (p : Clearing) (f g : List Mark) (s : List ℕ) → length f ≡ length p.items → length g ≡ length p.items → HasMarked p f Chosen s → StandsFor (length p.items) s g → GoesWith f g
+pub chosen_goes : (p : Clearing) (f g : List Mark) (s : List ℕ) → length f ≡ length p.items → length g ≡ length p.items → HasMarked p f Chosen s → AreMarksOf (length p.items) s g → GoesWith f g
 chosen_goes p f g s size_f size has stands = record {
   members = (λ j chosen stranger. let is : mark f j ≡ Chosen = has.marked j (stands_in p s g j stands (omega (arith, within_chosen g j chosen, size)) chosen) in absurd (cc (is, stranger)));
   chosen = (λ j chosen. stands.chosen j (has.all j (omega (arith, within_chosen f j chosen, size_f)) chosen));
   left = (λ j chosen left. let is : mark f j ≡ Chosen = has.marked j (stands_in p s g j stands (omega (arith, within_chosen g j chosen, size)) chosen) in absurd (cc (is, left)));
 }
 
-chosen_held : (p : Clearing) (f g : List Mark) (s : List ℕ) (l : ℕ) → HasMarked p f Chosen s → StandsFor (length p.items) s g → held p g l ≡ held p f l
+chosen_held : (p : Clearing) (f g : List Mark) (s : List ℕ) (l : ℕ) → HasMarked p f Chosen s → AreMarksOf (length p.items) s g → held p g l ≡ held p f l
 chosen_held p f g s l has stands =
     ap (λ z. balance p l +ℤ z) (sum_below_same (λ j. pick (is_chosen (mark g j)) (effect p j l)) (λ j. pick (is_chosen (mark f j)) (effect p j l)) (length p.items)
     (λ j below. ap (λ b. pick b (effect p j l)) (by_test (is_in j s) {P = is_chosen (mark g j) ≡ is_chosen (mark f j)}
@@ -112,7 +111,7 @@ chosen_held p f g s l has stands =
     (λ chosen. absurd (not_contains s j out (has.all j below (chosen_is (mark f j) chosen))))
     (λ other. ap is_chosen (stands.left j below (not_contains s j out)) ∙ sym other)))))
 
-pub chosen_overdrawn : (p : Clearing) (f g : List Mark) (s : List ℕ) → HasMarked p f Chosen s → StandsFor (length p.items) s g → IsOverdrawn p g → IsOverdrawn p f
+pub chosen_overdrawn : (p : Clearing) (f g : List Mark) (s : List ℕ) → HasMarked p f Chosen s → AreMarksOf (length p.items) s g → IsOverdrawn p g → IsOverdrawn p f
 chosen_overdrawn p f g s has stands over = record {
   line = over.line;
   within = over.within;
@@ -131,7 +130,7 @@ some_in (x ∷ xs) other = (x, (0, omega arith, refl))
 -- a stand for s, and room in which the rest of the members outside s was found
 pub record FoundRest (p : Clearing) (s members : List ℕ) (f r : List Mark) : Type 0 where
   pub places : ArePlaces p s
-  pub stands : StandsFor (length p.items) s f
+  pub stands : AreMarksOf (length p.items) s f
   pub size_f : length f ≡ length p.items
   pub size_r : length r ≡ length p.items
   pub inside : (j : ℕ) → j < length p.items → mark r j ≢ Stranger

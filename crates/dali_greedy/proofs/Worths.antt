@@ -12,7 +12,7 @@ use Rattle.dali_problem.specs.Partial.{mark, is_chosen}
 use Rattle.dali_problem.proofs.Lines.{item_limits}
 use Rattle.dali_problem.proofs.SetLaws.{is_in, value_in}
 use Rattle.dali_problem.proofs.SumLaws.{sum_below_same}
-use Rattle.dali_rest.specs.Room.{StandsFor}
+use Rattle.dali_rest.specs.Room.{AreMarksOf}
 use Rattle.dali_rest.proofs.Marks.{mark_same, mark_other, put_back, within_chosen}
 use Rattle.dali_rest.proofs.Standing.{stands_is, by_test}
 use Rattle.dali_greedy.specs.Standing.{left_worth, exchanged}
@@ -121,7 +121,7 @@ worth_whole p g (suc n) =
     one false = omega (arith, ints)
 
 -- a set that leaves no more is worth no less
-pub worth_no_less : (p : Clearing) (s t : List ℕ) (f g : List Mark) → ArePlaces p s → ArePlaces p t → StandsFor (length p.items) s f → StandsFor (length p.items) t g →
+pub worth_no_less : (p : Clearing) (s t : List ℕ) (f g : List Mark) → ArePlaces p s → ArePlaces p t → AreMarksOf (length p.items) s f → AreMarksOf (length p.items) t g →
     left_worth p g (length p.items) ≤ left_worth p f (length p.items) → value_of p s ≤ value_of p t
 worth_no_less p s t f g places_s places_t stands_f stands_g less =
     let n : ℕ = length p.items in

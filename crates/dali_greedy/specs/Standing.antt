@@ -10,7 +10,7 @@ use Rattle.dali_problem.specs.Partial.{mark, is_chosen, is_undecided, held}
 use Rattle.dali_problem.specs.Rules.{is_negative}
 use Rattle.dali_problem.specs.Touches.{touches, column_at}
 use Rattle.dali_rest.specs.Addable.{CanAddRest}
-use Rattle.dali_rest.specs.Room.{StandsFor}
+use Rattle.dali_rest.specs.Room.{AreMarksOf}
 use Rattle.dali_rest.specs.Swaps.{AreDecided}
 
 -- what follows serves the proofs of private functions: no public clause cites it
@@ -89,7 +89,7 @@ agrees_at Stranger taken = not taken
 -- s is the set of the marks, and the rest of the members outside it can't be added
 pub record IsDone (p : Clearing) (g : List Mark) (members s : List ℕ) : Type 0 where
   pub places : ArePlaces p s
-  pub stands : StandsFor (length p.items) s g
+  pub stands : AreMarksOf (length p.items) s g
   pub no_rest : ¬ (CanAddRest p s members)
 
 -- s has each place with the mark m, and no other

@@ -3,7 +3,7 @@ ghost use Rattle.std.specs.List.{All};
 ghost use Rattle.dali_problem.specs.Feasible.{ArePlaces, IsFeasible};
 ghost use Rattle.dali_problem.specs.Kept.{IsOf};
 ghost use Rattle.dali_problem.specs.Partial.{mark, Agrees};
-ghost use Rattle.dali_rest.specs.Room.{StandsFor};
+ghost use Rattle.dali_rest.specs.Room.{AreMarksOf};
 ghost use Rattle.dali_greedy.specs.Grown.{IsOverdrawn};
 ghost use Rattle.dali_greedy.specs.Standing.{IsStandOf, Holds, GoesWith, HasMarked, agrees_at};
 
@@ -82,7 +82,7 @@ impl Stand {
         requires of { IsStandOf problem.now self.old }
         requires places { All (λ j. j < length problem.now.items) places.now }
         ensures of { IsStandOf problem.now self.new }
-        ensures stands { StandsFor (length problem.now.items) places.now self.new.marks }
+        ensures stands { AreMarksOf (length problem.now.items) places.now self.new.marks }
     {
         for place in 0..problem.items() {
             self.remove(problem, place);
@@ -145,7 +145,7 @@ impl Stand {
         ensures begun { IsFeasible problem.now start.now → Agrees partial.now.marks start.now → IsTrue result }
 
         // what it is worth
-        ensures start { IsFeasible problem.now start.now → Agrees partial.now.marks start.now → StandsFor (length problem.now.items) start.now self.new.marks }
+        ensures start { IsFeasible problem.now start.now → Agrees partial.now.marks start.now → AreMarksOf (length problem.now.items) start.now self.new.marks }
     {
         self.become_set(problem, start.as_slice());
         if self.is_good(problem, partial) {

@@ -2,7 +2,7 @@ ghost use Rattle.std.specs.Prelude.{◌≤◌, ℕ, List, length, IfOk, IfSome, 
 ghost use Rattle.dali_problem.specs.Feasible.{ArePlaces, IsFeasible, value_of};
 ghost use Rattle.dali_problem.specs.Kept.{IsOf};
 ghost use Rattle.dali_problem.specs.Partial.{Agrees};
-ghost use Rattle.dali_rest.specs.Room.{IsRoomOf, StandsFor};
+ghost use Rattle.dali_rest.specs.Room.{IsRoomOf, AreMarksOf};
 ghost use Rattle.dali_greedy.specs.Grown.{IsGrown, IsOverdrawn};
 ghost use Rattle.dali_greedy.specs.Ground.{IsGroundOf};
 ghost use Rattle.dali_greedy.specs.Standing.{IsStandOf, Holds, GoesWith};
@@ -79,7 +79,7 @@ fn grow_on(
 
     // the set
     ensures grown { IfOk result (IsGrown problem.now partial.now.marks) }
-    ensures no_less { IfOk result (λ set. (s : List ℕ) → ArePlaces problem.now s → StandsFor (length problem.now.items) s stand.old.marks → value_of problem.now s ≤ value_of problem.now set) }
+    ensures no_less { IfOk result (λ set. (s : List ℕ) → ArePlaces problem.now s → AreMarksOf (length problem.now.items) s stand.old.marks → value_of problem.now s ≤ value_of problem.now set) }
 {
     loop {
         stand.better(problem, &ground.columns, partial, ground.order.as_slice());

@@ -4,7 +4,7 @@ ghost use Rattle.dali_problem.specs.Clearing.{item_at};
 ghost use Rattle.dali_problem.specs.Feasible.{ArePlaces};
 ghost use Rattle.dali_problem.specs.Partial.{mark, is_chosen};
 ghost use Rattle.dali_problem.specs.Rules.{is_negative};
-ghost use Rattle.dali_rest.specs.Room.{StandsFor};
+ghost use Rattle.dali_rest.specs.Room.{AreMarksOf};
 ghost use Rattle.dali_greedy.specs.Grown.{IsOverdrawn};
 ghost use Rattle.dali_greedy.specs.Standing.{IsStandOf, Holds, IsTight, gives_way};
 
@@ -104,7 +104,7 @@ impl Stand {
     pub(crate) fn places(&self, alloc: Global, problem: &Problem) -> Result<Places, OutOfMemory>
         requires { IsStandOf problem.now self.now }
         ensures places { IfOk result (ArePlaces problem.now) }
-        ensures stands { IfOk result (λ places. StandsFor (length problem.now.items) places self.now.marks) }
+        ensures stands { IfOk result (λ places. AreMarksOf (length problem.now.items) places self.now.marks) }
     {
         let mut places = Places::new(alloc);
         for place in 0..problem.items() {

@@ -7,7 +7,7 @@ use Rattle.dali_problem.specs.declared.mark.Mark.TheVariants.{Stranger, Undecide
 use Rattle.dali_problem.specs.Sums.{sum_below}
 use Rattle.dali_problem.specs.Clearing.{Clearing, balance, effect}
 use Rattle.dali_problem.specs.Partial.{mark}
-use Rattle.dali_lagrange.specs.Bound.{reduced, sum_of, counted}
+use Rattle.dali_lagrange.specs.Bound.{reduced, sum_of, count_of}
 use Rattle.dali_lagrange.specs.Best.{sum_with}
 use Rattle.dali_lagrange.proofs.Whole.{lines_and_places}
 
@@ -58,7 +58,7 @@ straight_term point l k b = elim (cases_eq k l) as (λ _. IsStraight (λ x. pos 
 ]
 
 -- what a place counts bends upwards
-convex_counted : (m : Mark) (h : ℕ → ℤ) → IsStraight h → IsConvex (λ x. counted m (h x))
+convex_counted : (m : Mark) (h : ℕ → ℤ) → IsStraight h → IsConvex (λ x. count_of m (h x))
 convex_counted Stranger h straight = record { bend = λ x. omega (arith, ints) }
 convex_counted Left h straight = record { bend = λ x. omega (arith, ints) }
 convex_counted Chosen h straight = record { bend = λ x. omega (arith, ints, straight.step x) }
@@ -76,10 +76,10 @@ unfolding sum_with
 convex_with p f point l =
     let lines = straight_sum (λ x k. pos (get_or (set point l x) k 0) *ℤ balance p k) (length p.lines)
     (λ k below. straight_term point l k (balance p k)) in
-    let places = convex_sum (λ x j. counted (mark f j) (reduced p (λ k. get_or (set point l x) k 0) j)) (length p.items)
+    let places = convex_sum (λ x j. count_of (mark f j) (reduced p (λ k. get_or (set point l x) k 0) j)) (length p.items)
     (λ j below. convex_counted (mark f j) (λ x. reduced p (λ k. get_or (set point l x) k 0) j) (straight_reduced p point l j)) in
     let is : (x : ℕ) → sum_below (λ k. pos (get_or (set point l x) k 0) *ℤ balance p k) (length p.lines)
-    +ℤ sum_below (λ j. counted (mark f j) (reduced p (λ k. get_or (set point l x) k 0) j)) (length p.items)
+    +ℤ sum_below (λ j. count_of (mark f j) (reduced p (λ k. get_or (set point l x) k 0) j)) (length p.items)
     ≡ sum_of p f (λ k. get_or (set point l x) k 0) =
     λ x. lines_and_places p f (λ k. get_or (set point l x) k 0) in
     record { bend = λ x. omega (arith, ints, is x, is (x + 1), is (x + 1 + 1), lines.step x, places.bend x) }

@@ -18,7 +18,7 @@ use Rattle.dali_problem.specs.Touches.{touches, column_at}
 use Rattle.dali_problem.proofs.Lines.{balance_small}
 use Rattle.dali_problem.proofs.SumLaws.{sum_below_change}
 use Rattle.dali_lagrange.specs.Best.{sum_with}
-use Rattle.dali_lagrange.specs.Bound.{reduced, sum_of, counted}
+use Rattle.dali_lagrange.specs.Bound.{reduced, sum_of, count_of}
 use Rattle.dali_lagrange.specs.KeptSum.{KeptSum, IsSumOf}
 use Rattle.dali_lagrange.specs.Touched.{AreTouches, at_place, shifted, reduced_in, touch_rise}
 use Rattle.dali_lagrange.proofs.Moved.{reduced_same, sum_same, reduced_set, sum_moved, reduced_small, sum_small}
@@ -36,21 +36,21 @@ bounded_at point bounded l = elim (cases_lt l (length point)) as (λ _. get_or p
 
 -- one place's mark is another
 sum_turned : (p : Clearing) (f : List Mark) (lam : ℕ → ℕ) (j : ℕ) (to : Mark) → j < length f → j < length p.items →
-    sum_of p (set f j to) lam ≡ sum_of p f lam +ℤ (counted to (reduced p lam j) -ℤ counted (mark f j) (reduced p lam j))
+    sum_of p (set f j to) lam ≡ sum_of p f lam +ℤ (count_of to (reduced p lam j) -ℤ count_of (mark f j) (reduced p lam j))
 sum_turned p f lam j to inside within =
-    let change = sum_below_change (λ i. counted (mark f i) (reduced p lam i)) (λ i. counted (mark (set f j to) i) (reduced p lam i)) (length p.items) j within
-    (λ i below off. ap (λ m. counted m (reduced p lam i)) (get_or-set_other f j i to Stranger off)) in
-    let here : counted (mark (set f j to) j) (reduced p lam j) ≡ counted to (reduced p lam j) =
-    ap (λ m. counted m (reduced p lam j)) (get_or-set_same f j to Stranger inside) in
+    let change = sum_below_change (λ i. count_of (mark f i) (reduced p lam i)) (λ i. count_of (mark (set f j to) i) (reduced p lam i)) (length p.items) j within
+    (λ i below off. ap (λ m. count_of m (reduced p lam i)) (get_or-set_other f j i to Stranger off)) in
+    let here : count_of (mark (set f j to) j) (reduced p lam j) ≡ count_of to (reduced p lam j) =
+    ap (λ m. count_of m (reduced p lam j)) (get_or-set_same f j to Stranger inside) in
     omega (arith, ints, change, here, lines_and_places p f lam, lines_and_places p (set f j to) lam)
 
 pub turned : (p : Clearing) (k : KeptSum) (j : ℕ) (to : Mark) (z : ℤ) → IsSumOf p k → j < length p.items →
-    z ≡ k.total +ℤ (counted to (reduced_in k.reduced j) -ℤ counted (mark k.marks j) (reduced_in k.reduced j)) →
+    z ≡ k.total +ℤ (count_of to (reduced_in k.reduced j) -ℤ count_of (mark k.marks j) (reduced_in k.reduced j)) →
     IsSumOf p (record { marks = set k.marks j to; multipliers = k.multipliers; reduced = k.reduced; total = z; columns = k.columns })
 turned p k j to z of within is =
     let worth_is = of.reduced j within in
-    let up : counted to (reduced_in k.reduced j) ≡ counted to (reduced p (λ l. get_or k.multipliers l 0) j) = ap (counted to) worth_is in
-    let down : counted (mark k.marks j) (reduced_in k.reduced j) ≡ counted (mark k.marks j) (reduced p (λ l. get_or k.multipliers l 0) j) = ap (counted (mark k.marks j)) worth_is in
+    let up : count_of to (reduced_in k.reduced j) ≡ count_of to (reduced p (λ l. get_or k.multipliers l 0) j) = ap (count_of to) worth_is in
+    let down : count_of (mark k.marks j) (reduced_in k.reduced j) ≡ count_of (mark k.marks j) (reduced p (λ l. get_or k.multipliers l 0) j) = ap (count_of (mark k.marks j)) worth_is in
     let sum = sum_turned p k.marks (λ l. get_or k.multipliers l 0) j to (omega (arith, of.marks, within)) within in
     record {
       marks = length-set k.marks j to ∙ of.marks;

@@ -13,7 +13,7 @@ use Rattle.dali_problem.specs.Touches.{touches}
 use Rattle.dali_problem.proofs.SumLaws.{sum_below_same, sum_below_sub, sum_below_change, sum_below_within}
 use Rattle.dali_problem.proofs.Lines.{item_limits, balance_small, widen}
 use Rattle.dali_lagrange.specs.Best.{sum_with}
-use Rattle.dali_lagrange.specs.Bound.{reduced, sum_of, counted}
+use Rattle.dali_lagrange.specs.Bound.{reduced, sum_of, count_of}
 use Rattle.dali_lagrange.specs.Touched.{shifted, reduced_in, touch_rise}
 use Rattle.dali_lagrange.proofs.Regroup.{sparse}
 use Rattle.dali_lagrange.proofs.Sizes.{product_small, counted_small, mul_less}
@@ -31,8 +31,8 @@ pub sum_same : (p : Clearing) (f : List Mark) (lam mu : ℕ → ℕ) → ((l : �
 sum_same p f lam mu same =
     let lines = sum_below_same (λ l. pos (lam l) *ℤ balance p l) (λ l. pos (mu l) *ℤ balance p l) (length p.lines)
     (λ l below. ap (λ m. pos m *ℤ balance p l) (same l below)) in
-    let places = sum_below_same (λ j. counted (mark f j) (reduced p lam j)) (λ j. counted (mark f j) (reduced p mu j)) (length p.items)
-    (λ j below. ap (counted (mark f j)) (reduced_same p lam mu j same)) in
+    let places = sum_below_same (λ j. count_of (mark f j) (reduced p lam j)) (λ j. count_of (mark f j) (reduced p mu j)) (length p.items)
+    (λ j below. ap (count_of (mark f j)) (reduced_same p lam mu j same)) in
     omega (arith, ints, lines, places, lines_and_places p f lam, lines_and_places p f mu)
 
 -- one line's term after its multiplier is set
@@ -53,12 +53,12 @@ reduced_set p point l x j size within =
     let change = term_change point l x (effect p j) (length p.lines) (omega (arith, size, within)) within in
     omega (arith, ints, change)
 
-counted_shift : (m : Mark) (r from to : ℤ) → counted m (shifted r to (pos 0)) -ℤ counted m (shifted r from (pos 0)) ≡ pos 0
+counted_shift : (m : Mark) (r from to : ℤ) → count_of m (shifted r to (pos 0)) -ℤ count_of m (shifted r from (pos 0)) ≡ pos 0
 counted_shift m r from to =
     let a : shifted r to (pos 0) ≡ r = grind (arith, ints) in
     let b : shifted r from (pos 0) ≡ r = grind (arith, ints) in
-    let c : counted m (shifted r to (pos 0)) ≡ counted m r = ap (counted m) a in
-    let d : counted m (shifted r from (pos 0)) ≡ counted m r = ap (counted m) b in
+    let c : count_of m (shifted r to (pos 0)) ≡ count_of m r = ap (count_of m) a in
+    let d : count_of m (shifted r from (pos 0)) ≡ count_of m r = ap (count_of m) b in
     omega (arith, ints, c, d)
 
 -- how the Sum changes as the multiplier of a line goes from one number to another
@@ -77,17 +77,17 @@ sum_moved p f point values l from to size within kept =
     let apart : (pos to -ℤ pos from) *ℤ balance p l ≡ (pos to -ℤ pos now) *ℤ balance p l -ℤ (pos from -ℤ pos now) *ℤ balance p l =
     omega (arith, ints, mul_less (pos to) (pos from) (balance p l), mul_less (pos to) (pos now) (balance p l), mul_less (pos from) (pos now) (balance p l)) in
     let touched = sum_touches p l
-    (λ j a. counted (mark f j) (shifted (reduced_in values j) (pos to -ℤ pos now) a) -ℤ counted (mark f j) (shifted (reduced_in values j) (pos from -ℤ pos now) a))
+    (λ j a. count_of (mark f j) (shifted (reduced_in values j) (pos to -ℤ pos now) a) -ℤ count_of (mark f j) (shifted (reduced_in values j) (pos from -ℤ pos now) a))
     (λ j. counted_shift (mark f j) (reduced_in values j) (pos from -ℤ pos now) (pos to -ℤ pos now)) in
     let each = sum_below_same
-    (λ j. counted (mark f j) (shifted (reduced_in values j) (pos to -ℤ pos now) (effect p j l)) -ℤ counted (mark f j) (shifted (reduced_in values j) (pos from -ℤ pos now) (effect p j l)))
-    (λ j. counted (mark f j) (reduced p (λ k. get_or (set point l to) k 0) j) -ℤ counted (mark f j) (reduced p (λ k. get_or (set point l from) k 0) j))
+    (λ j. count_of (mark f j) (shifted (reduced_in values j) (pos to -ℤ pos now) (effect p j l)) -ℤ count_of (mark f j) (shifted (reduced_in values j) (pos from -ℤ pos now) (effect p j l)))
+    (λ j. count_of (mark f j) (reduced p (λ k. get_or (set point l to) k 0) j) -ℤ count_of (mark f j) (reduced p (λ k. get_or (set point l from) k 0) j))
     (length p.items)
     (λ j below.
-    let one : (x : ℕ) → counted (mark f j) (shifted (reduced_in values j) (pos x -ℤ pos now) (effect p j l)) ≡ counted (mark f j) (reduced p (λ k. get_or (set point l x) k 0) j) =
-    λ x. ap (λ r. counted (mark f j) (shifted r (pos x -ℤ pos now) (effect p j l))) (kept j below) ∙ ap (counted (mark f j)) (sym (reduced_set p point l x j size within)) in
+    let one : (x : ℕ) → count_of (mark f j) (shifted (reduced_in values j) (pos x -ℤ pos now) (effect p j l)) ≡ count_of (mark f j) (reduced p (λ k. get_or (set point l x) k 0) j) =
+    λ x. ap (λ r. count_of (mark f j) (shifted r (pos x -ℤ pos now) (effect p j l))) (kept j below) ∙ ap (count_of (mark f j)) (sym (reduced_set p point l x j size within)) in
     omega (arith, ints, one to, one from)) in
-    let places = sum_below_sub (λ j. counted (mark f j) (reduced p (λ k. get_or (set point l to) k 0) j)) (λ j. counted (mark f j) (reduced p (λ k. get_or (set point l from) k 0) j)) (length p.items) in
+    let places = sum_below_sub (λ j. count_of (mark f j) (reduced p (λ k. get_or (set point l to) k 0) j)) (λ j. count_of (mark f j) (reduced p (λ k. get_or (set point l from) k 0) j)) (length p.items) in
     let whole_to = lines_and_places p f (λ k. get_or (set point l to) k 0) in
     let whole_from = lines_and_places p f (λ k. get_or (set point l from) k 0) in
     omega (arith, ints, lines_to, lines_from, apart, touched, each, places, whole_to, whole_from)
@@ -121,7 +121,7 @@ sum_small p f lam limits bounded =
     (λ l below.
     let most = balance_small p l limits in
     product_small (lam l) (2 ^ 60) (balance p l) (bounded l) (record { low = omega (arith, ints, most.0); high = omega (arith, ints, most.1) })) in
-    let places = sum_below_within (2 ^ 103) (λ j. counted (mark f j) (reduced p lam j)) (length p.items)
+    let places = sum_below_within (2 ^ 103) (λ j. count_of (mark f j) (reduced p lam j)) (length p.items)
     (λ j below. counted_small (2 ^ 103) (mark f j) (reduced p lam j) (reduced_small p lam j limits bounded below)) in
     let many_lines : length p.lines * (2 ^ 44 * 2 ^ 60) ≤ 2 ^ 116 = omega (arith, limits.lines) in
     let many_places : length p.items * 2 ^ 103 ≤ 2 ^ 113 = omega (arith, limits.items) in

@@ -8,7 +8,7 @@ use Rattle.dali_problem.specs.Sums.{sum_over, pick}
 use Rattle.dali_problem.specs.Limits.{Within}
 use Rattle.dali_problem.proofs.IntegerLaws.{mul_add}
 use Rattle.dali_problem.proofs.SumLaws.{sum_over_more}
-use Rattle.dali_lagrange.specs.Bound.{counted}
+use Rattle.dali_lagrange.specs.Bound.{count_of}
 use Rattle.dali_lagrange.specs.Touched.{at_place, shifted, reduced_in}
 use Rattle.dali_lagrange.proofs.Sizes.{product_within, counted_small}
 
@@ -24,16 +24,16 @@ wide z by a y value rise amount is =
     record { low = omega (arith, ints, is, small.low); high = omega (arith, ints, is, small.high) }
 
 pub at_most_shifted : (m : Mark) (t z by a y u : ℤ) → Within (2 ^ 120) t → Within (2 ^ 103) z → Within (2 ^ 44) by → Within (2 ^ 58) a →
-    y ≡ shifted z by a → u ≡ t +ℤ counted m y → Within (2 ^ 125) u
+    y ≡ shifted z by a → u ≡ t +ℤ count_of m y → Within (2 ^ 125) u
 at_most_shifted m t z by a y u total value rise amount is new =
     let small = shifted_small (2 ^ 103) z by a value rise amount in
-    let same : counted m y ≡ counted m (shifted z by a) = ap (counted m) is in
+    let same : count_of m y ≡ count_of m (shifted z by a) = ap (count_of m) is in
     let part = counted_small (2 ^ 103 + 2 ^ 102) m (shifted z by a) small in
     record { low = omega (arith, ints, new, same, part.low, total.low); high = omega (arith, ints, new, same, part.high, total.high) }
 
 -- how much more one place counts
 pub rise_small : (m : Mark) (z from to a : ℤ) → Within (2 ^ 103) z → Within (2 ^ 44) from → Within (2 ^ 44) to → Within (2 ^ 58) a →
-    Within (2 ^ 105) (counted m (shifted z to a) -ℤ counted m (shifted z from a))
+    Within (2 ^ 105) (count_of m (shifted z to a) -ℤ count_of m (shifted z from a))
 rise_small m z from to a value down up amount =
     let first = counted_small (2 ^ 103 + 2 ^ 102) m (shifted z to a) (shifted_small (2 ^ 103) z to a value up amount) in
     let second = counted_small (2 ^ 103 + 2 ^ 102) m (shifted z from a) (shifted_small (2 ^ 103) z from a value down amount) in

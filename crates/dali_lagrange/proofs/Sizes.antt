@@ -6,7 +6,7 @@ use Rattle.dali_problem.specs.declared.mark.Mark.{Mark}
 use Rattle.dali_problem.specs.declared.mark.Mark.TheVariants.{Stranger, Undecided, Chosen, Left}
 use Rattle.dali_problem.specs.Limits.{Within}
 use Rattle.dali_problem.proofs.IntegerLaws.{mul_add, mul_sub, mul_nonneg}
-use Rattle.dali_lagrange.specs.Bound.{counted}
+use Rattle.dali_lagrange.specs.Bound.{count_of}
 
 -- a multiplier times a number of size at most k
 pub product_small : (m k : ℕ) (z : ℤ) → m ≤ 2 ^ 44 → Within k z → Within (2 ^ 44 * k) (pos m *ℤ z)
@@ -24,7 +24,7 @@ product_small m k z factor small =
     }
 
 -- what a place counts is no larger than its reduced value
-pub counted_small : (k : ℕ) (m : Mark) (z : ℤ) → Within k z → Within k (counted m z)
+pub counted_small : (k : ℕ) (m : Mark) (z : ℤ) → Within k z → Within k (count_of m z)
 counted_small k Stranger z small = record { low = omega (arith, ints); high = omega (arith, ints) }
 counted_small k Left z small = record { low = omega (arith, ints); high = omega (arith, ints) }
 counted_small k Chosen z small = record { low = omega (arith, ints, small.low); high = omega (arith, ints, small.high) }

@@ -10,7 +10,7 @@ use Rattle.dali_problem.specs.Partial.{mark, Agrees}
 use Rattle.dali_problem.proofs.IntegerLaws.{mul_nonneg}
 use Rattle.dali_problem.proofs.SumLaws.{sum_below_zero, sum_below_scale, sum_below_same, sum_below_le}
 use Rattle.dali_problem.proofs.SetLaws.{is_in, is_in_of, contains_of, booked_in, value_in}
-use Rattle.dali_lagrange.specs.Bound.{reduced, sum_of, counted}
+use Rattle.dali_lagrange.specs.Bound.{reduced, sum_of, count_of}
 use Rattle.dali_lagrange.proofs.Regroup.{regroup, pick_scale}
 use Rattle.dali_lagrange.proofs.Whole.{lines_and_places}
 
@@ -20,7 +20,7 @@ not_true false no_way = refl
 
 -- a place counts at least what it gives, in the set or not
 place_le : (m : Mark) (b : Bool) (z : ℤ) → (m ≡ Chosen → b ≡ true) → (m ≡ Stranger → b ≡ false) → (m ≡ Left → b ≡ false) →
-    pick b z ≤ℤ counted m z
+    pick b z ≤ℤ count_of m z
 place_le Chosen b z chosen stranger left =
     let taken : pick b z ≡ z = ap (λ c. pick c z) (chosen refl) in
     omega (arith, ints, taken)
@@ -33,7 +33,7 @@ place_le Left b z chosen stranger left =
 place_le Undecided true z chosen stranger left = omega (arith, ints, clamps)
 place_le Undecided false z chosen stranger left = omega (arith, ints, clamps)
 
-agreed : (f : List Mark) (t : List ℕ) (j : ℕ) (z : ℤ) → Agrees f t → pick (is_in j t) z ≤ℤ counted (mark f j) z
+agreed : (f : List Mark) (t : List ℕ) (j : ℕ) (z : ℤ) → Agrees f t → pick (is_in j t) z ≤ℤ count_of (mark f j) z
 agreed f t j z agrees = place_le (mark f j) (is_in j t) z
     (λ is. is_in_of t j (agrees.chosen j is))
     (λ is. not_true (is_in j t) (λ told. agrees.members j (contains_of t j told) is))
@@ -66,7 +66,7 @@ weak_duality p f lam t places feasible agrees =
     (λ l. pos (lam l) *ℤ (balance p l +ℤ sum_below (λ j. pick (is_in j t) (effect p j l)) (length p.items))) (length p.lines)
     (λ l below. ap (λ z. pos (lam l) *ℤ z) (booked_in p t l places)) in
     let covered = lines_nonneg p t lam feasible in
-    let each = sum_below_le (λ j. pick (is_in j t) (reduced p lam j)) (λ j. counted (mark f j) (reduced p lam j)) (length p.items)
+    let each = sum_below_le (λ j. pick (is_in j t) (reduced p lam j)) (λ j. count_of (mark f j) (reduced p lam j)) (length p.items)
     (λ j below. agreed f t j (reduced p lam j) agrees) in
     let sum = lines_and_places p f lam in
     omega (arith, ints, scaled, times, scale, picks, whole, lines, covered, each, sum)

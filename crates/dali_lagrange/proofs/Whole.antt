@@ -6,13 +6,13 @@ use Rattle.dali_problem.specs.Sums.{sum_below, pick}
 use Rattle.dali_problem.specs.Clearing.{Clearing, balance, worth, effect}
 use Rattle.dali_problem.specs.Partial.{mark, is_chosen, is_undecided}
 use Rattle.dali_problem.proofs.SumLaws.{sum_below_add, sum_below_scale, sum_below_same}
-use Rattle.dali_lagrange.specs.Bound.{reduced, sum_of, counted}
+use Rattle.dali_lagrange.specs.Bound.{reduced, sum_of, count_of}
 use Rattle.dali_lagrange.proofs.Regroup.{regroup, pick_scale}
 
 -- each line's balance and what each place counts make the Sum
 pub lines_and_places : (p : Clearing) (f : List Mark) (lam : ℕ → ℕ) →
     sum_below (λ l. pos (lam l) *ℤ balance p l) (length p.lines)
-    +ℤ sum_below (λ j. counted (mark f j) (reduced p lam j)) (length p.items)
+    +ℤ sum_below (λ j. count_of (mark f j) (reduced p lam j)) (length p.items)
     ≡ sum_of p f lam
 unfolding sum_of
 lines_and_places p f lam =

@@ -39,5 +39,5 @@ abbrev pub bound_of : ℤ → ℤ
 bound_of s = int_div_euclid s (pos scale)
 
 -- what a place with this mark and this reduced value counts, where each line counts its balance alone
-abbrev pub counted : Mark → ℤ → ℤ
-counted m z = pick (is_chosen m) z +ℤ pick (is_undecided m) (int_max (pos 0) z)
+abbrev pub count_of : Mark → ℤ → ℤ
+count_of m z = pick (is_chosen m) z +ℤ pick (is_undecided m) (int_max (pos 0) z)

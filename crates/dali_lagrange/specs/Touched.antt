@@ -6,7 +6,7 @@ use Rattle.dali_problem.specs.declared.mark.Mark.{Mark}
 use Rattle.dali_problem.specs.Limits.{Within}
 use Rattle.dali_problem.specs.Partial.{mark}
 use Rattle.dali_problem.specs.Sums.{pick}
-use Rattle.dali_lagrange.specs.Bound.{counted}
+use Rattle.dali_lagrange.specs.Bound.{count_of}
 
 -- touches of places below n, no more than items
 pub record AreTouches (n : ℕ) (touches : List Touch) : Type 0 where
@@ -29,5 +29,5 @@ reduced_in values j = slice_index_or values j (pos 0)
 -- how much more the place of a touch counts where its line's multiplier has risen by `to` than where by `from`
 abbrev pub touch_rise : List Mark → List ℤ → ℤ → ℤ → Touch → ℤ
 touch_rise f values from to t =
-    counted (mark f t.place) (shifted (reduced_in values t.place) to t.amount)
-    -ℤ counted (mark f t.place) (shifted (reduced_in values t.place) from t.amount)
+    count_of (mark f t.place) (shifted (reduced_in values t.place) to t.amount)
+    -ℤ count_of (mark f t.place) (shifted (reduced_in values t.place) from t.amount)

@@ -2,7 +2,7 @@ ghost use Rattle.std.specs.Prelude.{◌≡◌, ◌*◌, ◌^◌, ◌≤◌, ℤ,
 ghost use Rattle.dali_base.specs.Limits.{most_effect, most_multiplier};
 ghost use Rattle.dali_problem.specs.Limits.{Within};
 ghost use Rattle.dali_problem.specs.Sums.{pick};
-ghost use Rattle.dali_lagrange.specs.Bound.{counted};
+ghost use Rattle.dali_lagrange.specs.Bound.{count_of};
 
 use dali_problem::{Effect, Mark};
 
@@ -69,7 +69,7 @@ pub(crate) fn add_weighted(total: &mut i128, factor: u64, effect: &Effect)
 /// Whether a place with this mark and this reduced value counts.
 #[tactic(auto, using(std::proofs::lemmas::Int::ints, std::proofs::lemmas::Int::clamps))]
 fn counts(mark: Mark, worth: &i128) -> bool
-    ensures { counted mark worth.now ≡ pick result worth.now }
+    ensures { count_of mark worth.now ≡ pick result worth.now }
 {
     match mark {
         Mark::Chosen => true,
@@ -83,7 +83,7 @@ fn counts(mark: Mark, worth: &i128) -> bool
 pub(crate) fn add_counted(total: &mut i128, mark: Mark, worth: &i128)
     requires total { Within (2 ^ 125) total.old }
     requires worth { Within (2 ^ 125) worth.now }
-    ensures { total.new ≡ total.old +ℤ counted mark worth.now }
+    ensures { total.new ≡ total.old +ℤ count_of mark worth.now }
 {
     if counts(mark, worth) {
         plus(total, worth);
@@ -95,7 +95,7 @@ pub(crate) fn add_counted(total: &mut i128, mark: Mark, worth: &i128)
 pub(crate) fn take_counted(total: &mut i128, mark: Mark, worth: &i128)
     requires total { Within (2 ^ 125) total.old }
     requires worth { Within (2 ^ 125) worth.now }
-    ensures { total.new ≡ total.old -ℤ counted mark worth.now }
+    ensures { total.new ≡ total.old -ℤ count_of mark worth.now }
 {
     if counts(mark, worth) {
         minus(total, worth);
@@ -106,7 +106,7 @@ pub(crate) fn take_counted(total: &mut i128, mark: Mark, worth: &i128)
 pub(crate) fn recount(total: &mut i128, from: Mark, to: Mark, worth: &i128)
     requires total { Within (2 ^ 124) total.old }
     requires worth { Within (2 ^ 124) worth.now }
-    ensures { total.new ≡ total.old +ℤ (counted to worth.now -ℤ counted from worth.now) }
+    ensures { total.new ≡ total.old +ℤ (count_of to worth.now -ℤ count_of from worth.now) }
 {
     add_counted(total, to, worth);
     take_counted(total, from, worth);

@@ -7,7 +7,7 @@ ghost use Rattle.dali_problem.specs.Clearing.{balance, item_at};
 ghost use Rattle.dali_problem.specs.Limits.{Within, AreEffects, IsProblem};
 ghost use Rattle.dali_problem.specs.Partial.{mark, Agrees};
 ghost use Rattle.dali_problem.specs.Kept.{IsOf};
-ghost use Rattle.dali_lagrange.specs.Bound.{reduced, sum_of, bound_of, counted, ArePartsSmall};
+ghost use Rattle.dali_lagrange.specs.Bound.{reduced, sum_of, bound_of, count_of, ArePartsSmall};
 ghost use Rattle.dali_lagrange.specs.Limits.{scale};
 
 use crate::limits::SCALE;
@@ -64,7 +64,7 @@ fn add_places(problem: &Problem, partial: &Partial, point: &Probe, total: &mut i
     requires room { Within (2 ^ 116) total.old }
     ensures exact { total.new
         ≡ total.old
-        +ℤ sum_below (λ j. counted (mark partial.now.marks j) (reduced problem.now (slice_index point.now) j)) (length problem.now.items) }
+        +ℤ sum_below (λ j. count_of (mark partial.now.marks j) (reduced problem.now (slice_index point.now) j)) (length problem.now.items) }
     ensures bounded { Within (2 ^ 117 - 1) total.new }
 {
     for place in 0..problem.items() {

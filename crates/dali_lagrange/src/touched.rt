@@ -3,7 +3,7 @@ ghost use Rattle.std.specs.List.{All};
 ghost use Rattle.dali_base.specs.Limits.{most_multiplier};
 ghost use Rattle.dali_problem.specs.Limits.{Within};
 ghost use Rattle.dali_problem.specs.Sums.{sum_over};
-ghost use Rattle.dali_lagrange.specs.Bound.{counted};
+ghost use Rattle.dali_lagrange.specs.Bound.{count_of};
 ghost use Rattle.dali_lagrange.specs.Touched.{AreTouches, at_place, shifted, reduced_in, touch_rise};
 
 use crate::product::{add_counted, plus, take_counted};
@@ -50,7 +50,7 @@ fn add_rise(total: &mut i128, mark: Mark, value: &i128, from: &i64, to: &i64, am
     requires amount { Within (2 ^ 58) amount.now }
     ensures { total.new
         ≡ total.old
-        +ℤ (counted mark (shifted value.now to.now amount.now) -ℤ counted mark (shifted value.now from.now amount.now)) }
+        +ℤ (count_of mark (shifted value.now to.now amount.now) -ℤ count_of mark (shifted value.now from.now amount.now)) }
 {
     match mark {
         Mark::Stranger | Mark::Left => {}

@@ -5,7 +5,7 @@ use Rattle.std.specs.Option.{option_map, option_or, option_map_or}
 use Rattle.std.proofs.lemmas.List.{take-map, take_all, take-append-le, map-append, length-append, reverse-append, length-take}
 use Rattle.std.proofs.lemmas.Option.{slice_get-map, slice_get_within}
 use Rattle.dali_account.specs.declared.net.Move.{Move}
-use Rattle.dali_account.specs.Book.{same_name}
+use Rattle.dali_base.specs.Readers.{same_bytes}
 use Rattle.dali_account.proofs.SumLemmas.{same_name_is}
 use Rattle.dali_ledger.specs.declared.posting.Posting.{Posting}
 use Rattle.dali_ledger.specs.Postings.{next_posting, with_move}
@@ -16,13 +16,13 @@ use Rattle.dali_ledger.specs.Places.{PlacesOf, last_place}
 use Rattle.dali_ledger.proofs.SumLemmas.{get_push}
 
 -- one more account stands last
-pub last_place_push : (xs : List (List ℕ)) (x account : List ℕ) → last_place (xs ++ x ∷ []) account ≡ cond (same_name x account) (Some (length xs)) (last_place xs account)
+pub last_place_push : (xs : List (List ℕ)) (x account : List ℕ) → last_place (xs ++ x ∷ []) account ≡ cond (same_bytes x account) (Some (length xs)) (last_place xs account)
 last_place_push [] x account = refl
 last_place_push (y ∷ ys) x account =
-    ap (λ o. option_or (option_map (λ k. k + 1) o) (cond (same_name y account) (Some 0) None)) (last_place_push ys x account) ∙ by (same_name x account)
+    ap (λ o. option_or (option_map (λ k. k + 1) o) (cond (same_bytes y account) (Some 0) None)) (last_place_push ys x account) ∙ by (same_bytes x account)
   where
-    by : (b : Bool) → option_or (option_map (λ k. k + 1) (cond b (Some (length ys)) (last_place ys account))) (cond (same_name y account) (Some 0) None)
-        ≡ cond b (Some (length (y ∷ ys))) (option_or (option_map (λ k. k + 1) (last_place ys account)) (cond (same_name y account) (Some 0) None))
+    by : (b : Bool) → option_or (option_map (λ k. k + 1) (cond b (Some (length ys)) (last_place ys account))) (cond (same_bytes y account) (Some 0) None)
+        ≡ cond b (Some (length (y ∷ ys))) (option_or (option_map (λ k. k + 1) (last_place ys account)) (cond (same_bytes y account) (Some 0) None))
     by true = ap Some (add-one (length ys))
     by false = refl
 
@@ -37,9 +37,9 @@ get_end (z ∷ zs) x = get_end zs x
 
 -- one more posting keeps the places
 module _ (p q : Places) (accounts : List (List ℕ)) (account : List ℕ) (last : Option ℕ) (kept : PlacesOf p accounts)
-    (last_is : last ≡ lookup (same_name account) p.lasts.entries)
+    (last_is : last ≡ lookup (same_bytes account) p.lasts.entries)
     (pushed : q.befores.items ≡ p.befores.items ++ last ∷ [])
-    (updated : (other : List ℕ) → lookup (same_name other) q.lasts.entries ≡ cond (same_name account other) (Some (length p.befores.items)) (lookup (same_name other) p.lasts.entries)) where
+    (updated : (other : List ℕ) → lookup (same_bytes other) q.lasts.entries ≡ cond (same_bytes account other) (Some (length p.befores.items)) (lookup (same_bytes other) p.lasts.entries)) where
   longer : length q.befores.items ≡ length (accounts ++ account ∷ [])
   longer = ap length pushed ∙ length-append p.befores.items (last ∷ []) ∙ ap (λ n. n + 1) kept.len ∙ sym (length-append accounts (account ∷ []))
 
@@ -56,10 +56,10 @@ module _ (p q : Places) (accounts : List (List ℕ)) (account : List ℕ) (last 
         ∙ ap (λ (names : List (List ℕ)). Some (last_place names other)) (sym all)
   ]
 
-  last_at : (other : List ℕ) → lookup (same_name other) q.lasts.entries ≡ last_place (accounts ++ account ∷ []) other
+  last_at : (other : List ℕ) → lookup (same_bytes other) q.lasts.entries ≡ last_place (accounts ++ account ∷ []) other
   last_at other = updated other
-      ∙ ap (λ n. cond (same_name account other) (Some n) (lookup (same_name other) p.lasts.entries)) kept.len
-      ∙ ap (cond (same_name account other) (Some (length accounts))) (kept.lasts other)
+      ∙ ap (λ n. cond (same_bytes account other) (Some n) (lookup (same_bytes other) p.lasts.entries)) kept.len
+      ∙ ap (cond (same_bytes account other) (Some (length accounts))) (kept.lasts other)
       ∙ sym (last_place_push accounts account other)
 
   pub places_more : PlacesOf q (accounts ++ account ∷ [])
@@ -70,12 +70,12 @@ accounts_push ps command m = map-append (λ (p : Posting). p.account) ps (next_p
 
 -- the postings of an account
 abbrev pub own_rows : List ℕ → List Posting → List Posting
-own_rows account ps = filter (λ p. same_name p.account account) ps
+own_rows account ps = filter (λ p. same_bytes p.account account) ps
 
 -- without a last place there are none
 pub none_own : (ps : List Posting) (account : List ℕ) → last_place (accounts_of ps) account ≡ None → own_rows account ps ≡ []
 none_own [] account none = refl
-none_own (q ∷ ps) account none = by (last_place (accounts_of ps) account) (same_name q.account account) none (none_own ps account)
+none_own (q ∷ ps) account none = by (last_place (accounts_of ps) account) (same_bytes q.account account) none (none_own ps account)
   where
     by : (o : Option ℕ) (b : Bool) → option_or (option_map (λ k. k + 1) o) (cond b (Some 0) None) ≡ None → (o ≡ None → own_rows account ps ≡ []) → cond b (q ∷ own_rows account ps) (own_rows account ps) ≡ []
     by (Some j) b e rest = absurd (cc)
@@ -94,7 +94,7 @@ last_behind q ps account j k is last = subst (Last (q ∷ ps) account) (sym (add
   posting = last.posting;
   there = last.there;
   own = last.own;
-  rows = by (same_name q.account account);
+  rows = by (same_bytes q.account account);
 })
   where
     by : (b : Bool) → cond b (q ∷ own_rows account ps) (own_rows account ps) ≡ cond b (q ∷ own_rows account (take j ps)) (own_rows account (take j ps)) ++ last.posting ∷ []
@@ -106,9 +106,9 @@ some_is j k e = cc
 
 pub last_own : (ps : List Posting) (account : List ℕ) (k : ℕ) → last_place (accounts_of ps) account ≡ Some k → Last ps account k
 last_own [] account k e = absurd (cc)
-last_own (q ∷ ps) account k e = by (last_place (accounts_of ps) account) (same_name q.account account) refl refl e (λ j at. last_own ps account j at)
+last_own (q ∷ ps) account k e = by (last_place (accounts_of ps) account) (same_bytes q.account account) refl refl e (λ j at. last_own ps account j at)
   where
-    by : (o : Option ℕ) (b : Bool) → last_place (accounts_of ps) account ≡ o → same_name q.account account ≡ b → option_or (option_map (λ n. n + 1) o) (cond b (Some 0) None) ≡ Some k →
+    by : (o : Option ℕ) (b : Bool) → last_place (accounts_of ps) account ≡ o → same_bytes q.account account ≡ b → option_or (option_map (λ n. n + 1) o) (cond b (Some 0) None) ≡ Some k →
         ((j : ℕ) → last_place (accounts_of ps) account ≡ Some j → Last ps account j) → Last (q ∷ ps) account k
     by (Some j) b at own found rest = last_behind q ps account j k (some_is (j + 1) k found) (rest j at)
     by None true at own found rest = subst (Last (q ∷ ps) account) (some_is 0 k found) (record {
@@ -185,7 +185,7 @@ walk_end account ps rows walk = ap (λ rs. rs ++ reverse rows) (sym (none_own (t
 
 place_within : (xs : List (List ℕ)) (account : List ℕ) → option_map_or (λ k. k + 1) (last_place xs account) 0 ≤ length xs
 place_within [] account = omega arith
-place_within (x ∷ xs) account = by (last_place xs account) (same_name x account) (place_within xs account)
+place_within (x ∷ xs) account = by (last_place xs account) (same_bytes x account) (place_within xs account)
   where
     by : (o : Option ℕ) (b : Bool) → option_map_or (λ k. k + 1) o 0 ≤ length xs → option_map_or (λ k. k + 1) (option_or (option_map (λ k. k + 1) o) (cond b (Some 0) None)) 0 ≤ length (x ∷ xs)
     by (Some j) b le = omega arith

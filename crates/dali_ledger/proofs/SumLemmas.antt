@@ -7,7 +7,7 @@ use Rattle.dali_account.specs.Net.{pair_of}
 use Rattle.dali_account.specs.Units.{PairKey}
 use Rattle.dali_account.proofs.UnitsLemmas.{same_pair}
 use Rattle.dali_account.proofs.SumLemmas.{same_name_refl}
-use Rattle.dali_account.specs.Book.{same_name}
+use Rattle.dali_base.specs.Readers.{same_bytes}
 use Rattle.dali_ledger.specs.declared.posting.Posting.{Posting}
 use Rattle.dali_ledger.specs.Postings.{delta_at, delta_sum, next_posting, with_move, IsSum, IsLedger}
 
@@ -17,7 +17,7 @@ sum_push [] p pair = omega (arith, ints)
 sum_push (q ∷ ps) p pair = let rest = sum_push ps p pair in omega (arith, ints, rest)
 
 same_pair_itself : (pair : PairKey) → same_pair pair pair ≡ true
-same_pair_itself pair = ap (λ t. t && same_name pair.1 pair.1) (same_name_refl pair.0) ∙ same_name_refl pair.1
+same_pair_itself pair = ap (λ t. t && same_bytes pair.1 pair.1) (same_name_refl pair.0) ∙ same_name_refl pair.1
 
 -- a move adds its delta to the sum of its pair
 pub sum_moved : (ps : List Posting) (command : ℕ) (m : Move) → delta_sum (with_move ps command m) (pair_of m) ≡ delta_sum ps (pair_of m) +ℤ m.delta

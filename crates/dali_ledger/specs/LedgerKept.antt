@@ -1,7 +1,7 @@
 use Rattle.std.specs.Prelude.{◌≡◌, ℕ, ◌-◌, pos, List, map, min, unwrap_or, ◌&&◌, vec_len, vec_capacity}
 use Rattle.std.specs.Map.{lookup}
 use Rattle.indexmap.specs.IndexMap.{spare}
-use Rattle.dali_account.specs.Book.{same_name}
+use Rattle.dali_base.specs.Readers.{same_bytes}
 use Rattle.dali_account.specs.Units.{PairKey}
 use Rattle.dali_ledger.specs.declared.posting.Posting.{Posting}
 use Rattle.dali_ledger.specs.Postings.{IsLedger, delta_sum}
@@ -17,7 +17,7 @@ state_of a = record {
 
 -- the number beside the pair, 0 where there is none
 abbrev pub sum_in : List (PairKey × ℕ) → PairKey → ℕ
-sum_in sums pair = unwrap_or (lookup (λ q. same_name pair.0 q.0 && same_name pair.1 q.1) sums) 0
+sum_in sums pair = unwrap_or (lookup (λ q. same_bytes pair.0 q.0 && same_bytes pair.1 q.1) sums) 0
 
 -- the account of each posting
 abbrev pub accounts_of : List Posting → List (List ℕ)

@@ -1,6 +1,6 @@
 use Rattle.std.specs.Prelude.{◌≡◌, ℕ, ◌+◌, ◌&&◌, ℤ, pos, unsigned_abs, ◌+ℤ◌, ◌≤ℤ◌, Bool, List, [], ◌∷◌, ◌++◌, length, fold, take, drop, Some, All, false, IsTrue, slice_get, if◌then◌else◌}
 use Rattle.dali_account.specs.declared.net.Move.{Move}
-use Rattle.dali_account.specs.Book.{same_name}
+use Rattle.dali_base.specs.Readers.{same_bytes}
 use Rattle.dali_account.specs.Net.{pair_of}
 use Rattle.dali_base.specs.Limits.{most_total}
 use Rattle.dali_account.specs.Units.{PairKey}
@@ -8,7 +8,7 @@ use Rattle.dali_ledger.specs.declared.posting.Posting.{Posting}
 
 -- whether the posting changes the pair (account, asset)
 abbrev pub is_of : Posting → PairKey → Bool
-is_of p pair = same_name p.account pair.0 && same_name p.asset pair.1
+is_of p pair = same_bytes p.account pair.0 && same_bytes p.asset pair.1
 
 abbrev pub delta_at : Posting → PairKey → ℤ
 delta_at p pair = if is_of p pair then p.delta else pos 0

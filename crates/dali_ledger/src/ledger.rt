@@ -1,7 +1,7 @@
 ghost use Rattle.std.specs.Prelude.{◌≡◌, ℕ, ◌<◌, ◌≤◌, ◌+◌, [], pos, ◌+ℤ◌, length, slice_get, option_copied, IfOk, OnOk, OnSome};
 ghost use Rattle.std.specs.Int.{FitsUnsigned, w64};
 ghost use Rattle.std.specs.List.{filter};
-ghost use Rattle.dali_account.specs.Book.{same_name};
+ghost use Rattle.dali_base.specs.Readers.{same_bytes};
 ghost use Rattle.dali_account.specs.Net.{IsNet, pair_of, after_move};
 ghost use Rattle.dali_account.specs.Units.{PairKey};
 ghost use Rattle.dali_ledger.specs.Postings.{IsLedger, IsLast, IsSum, delta_sum, with_move, posted};
@@ -105,7 +105,7 @@ impl Ledger {
 
     /// The postings of the account, in order. Takes time for these rows alone, however many other postings there are.
     pub fn rows_of(&self, alloc: Global, account: Name) -> Result<Postings, OutOfMemory>
-        ensures { IfOk result (λ rows. rows ≡ filter (λ p. same_name p.account account) self.now.postings) }
+        ensures { IfOk result (λ rows. rows ≡ filter (λ p. same_bytes p.account account) self.now.postings) }
     {
         let mut rows = Vec::new(alloc);
         let mut next = self.places.last(account);

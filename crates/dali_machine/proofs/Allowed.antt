@@ -3,7 +3,7 @@ use Rattle.std.proofs.lemmas.Bool.Decides.{nat_tests}
 use Rattle.std.specs.Result.{IsOk}
 use Rattle.dali_account.specs.declared.refusal.BookNo.{BookNo}
 use Rattle.dali_account.specs.declared.refusal.BookNo.TheVariants as books
-use Rattle.dali_account.specs.Book.{same_name, cash, has_account, has_asset, knows_pair, balance_of, earmark_of, total_of}
+use Rattle.dali_account.specs.Book.{cash, has_account, has_asset, knows_pair, balance_of, earmark_of, total_of}
 use Rattle.dali_base.specs.Limits.{most_quantity, most_total}
 use Rattle.dali_account.specs.Limits.{most_accounts, most_codes}
 use Rattle.dali_account.specs.Refusals.{Answers, account_refusal, asset_refusal, issue_refusal, draw_refusal, release_refusal}
@@ -12,6 +12,7 @@ use Rattle.dali_queue.specs.Queue.{is_used, is_queued}
 use Rattle.dali_queue.specs.Groups.{same_group, group_size}
 use Rattle.dali_base.specs.declared.kind.Kind.{Kind}
 use Rattle.dali_base.specs.declared.kind.Kind.TheVariants as kinds
+use Rattle.dali_base.specs.Readers.{same_bytes}
 use Rattle.dali_line.specs.declared.command.Verb.TheVariants as verbs
 use Rattle.dali_machine.specs.Machine.{Machine}
 use Rattle.dali_machine.specs.declared.outcome.Code.{Code}
@@ -109,9 +110,9 @@ module _ (m : Machine) (t : ℕ) where
       let ws = m.queue.waiting in
       let missing : Bool = not (is_queued ws first) || not (is_queued ws second) in
       let large : Bool = nat_lt most_linked (group_size ws first + group_size ws second) in
-      let queued = none_first missing Gone ((same_name first second, SelfDeal) ∷ (same_group ws first second, There) ∷ (large, Full) ∷ []) e in
-      let rest = none_after missing Gone ((same_name first second, SelfDeal) ∷ (same_group ws first second, There) ∷ (large, Full) ∷ []) e in
-      let third = none_after (same_name first second) SelfDeal ((same_group ws first second, There) ∷ (large, Full) ∷ []) rest in
+      let queued = none_first missing Gone ((same_bytes first second, SelfDeal) ∷ (same_group ws first second, There) ∷ (large, Full) ∷ []) e in
+      let rest = none_after missing Gone ((same_bytes first second, SelfDeal) ∷ (same_group ws first second, There) ∷ (large, Full) ∷ []) e in
+      let third = none_after (same_bytes first second) SelfDeal ((same_group ws first second, There) ∷ (large, Full) ∷ []) rest in
       let last = none_after (same_group ws first second) There ((large, Full) ∷ []) third in
       record {
         one = is_true (is_queued ws first) (left_false (not (is_queued ws first)) (not (is_queued ws second)) queued);
@@ -125,12 +126,12 @@ module _ (m : Machine) (t : ℕ) where
     pub new : is_used m.queue id ≡ false
     pub giver_known : has_account m.book.accounts giver ≡ true
     pub taker_known : has_account m.book.accounts taker ≡ true
-    pub apart : same_name giver taker ≡ false
+    pub apart : same_bytes giver taker ≡ false
     pub few : length m.queue.waiting < most_queued
 
   pub record IsDelivery (code : List ℕ) : Type 0 where
     pub known : has_asset m.book.codes code ≡ true
-    pub no_cash : same_name code cash ≡ false
+    pub no_cash : same_bytes code cash ≡ false
 
   abbrev places : Kind → List (Bool × Code)
   places kind = (is_late m kind t, Late) ∷ (is_full m, Full) ∷ []
@@ -146,27 +147,27 @@ module _ (m : Machine) (t : ℕ) where
 
   module _ (id giver taker code : List ℕ) where
     -- the sentences of a delivery up to its last ones
-    delivery : (more : List (Bool × Code)) → first_of ((is_used m.queue id, There) ∷ (unknown_parties m giver taker || unknown_asset m code, Name) ∷ (same_name code cash, Cash) ∷ (same_name giver taker, SelfDeal) ∷ more) ≡ None →
+    delivery : (more : List (Bool × Code)) → first_of ((is_used m.queue id, There) ∷ (unknown_parties m giver taker || unknown_asset m code, Name) ∷ (same_bytes code cash, Cash) ∷ (same_bytes giver taker, SelfDeal) ∷ more) ≡ None →
         (first_of more ≡ None) × IsDelivery code × ((length m.queue.waiting < most_queued) → IsEntry id giver taker)
     delivery more e =
         let unknown : Bool = unknown_parties m giver taker || unknown_asset m code in
-        let two = none_after (is_used m.queue id) There ((unknown, Name) ∷ (same_name code cash, Cash) ∷ (same_name giver taker, SelfDeal) ∷ more) e in
-        let three = none_after unknown Name ((same_name code cash, Cash) ∷ (same_name giver taker, SelfDeal) ∷ more) two in
-        let four = none_after (same_name code cash) Cash ((same_name giver taker, SelfDeal) ∷ more) three in
-        let five = none_after (same_name giver taker) SelfDeal more four in
-        let known : unknown ≡ false = none_first unknown Name ((same_name code cash, Cash) ∷ (same_name giver taker, SelfDeal) ∷ more) two in
+        let two = none_after (is_used m.queue id) There ((unknown, Name) ∷ (same_bytes code cash, Cash) ∷ (same_bytes giver taker, SelfDeal) ∷ more) e in
+        let three = none_after unknown Name ((same_bytes code cash, Cash) ∷ (same_bytes giver taker, SelfDeal) ∷ more) two in
+        let four = none_after (same_bytes code cash) Cash ((same_bytes giver taker, SelfDeal) ∷ more) three in
+        let five = none_after (same_bytes giver taker) SelfDeal more four in
+        let known : unknown ≡ false = none_first unknown Name ((same_bytes code cash, Cash) ∷ (same_bytes giver taker, SelfDeal) ∷ more) two in
         let both = parties_known giver taker (left_false (unknown_parties m giver taker) (unknown_asset m code) known) in
         let asset : IsDelivery code = record {
           known = is_true (has_asset m.book.codes code) (right_false (unknown_parties m giver taker) (unknown_asset m code) known);
-          no_cash = none_first (same_name code cash) Cash ((same_name giver taker, SelfDeal) ∷ more) three;
+          no_cash = none_first (same_bytes code cash) Cash ((same_bytes giver taker, SelfDeal) ∷ more) three;
         } in (
           five,
           asset,
           λ few. record {
-            new = none_first (is_used m.queue id) There ((unknown, Name) ∷ (same_name code cash, Cash) ∷ (same_name giver taker, SelfDeal) ∷ more) e;
+            new = none_first (is_used m.queue id) There ((unknown, Name) ∷ (same_bytes code cash, Cash) ∷ (same_bytes giver taker, SelfDeal) ∷ more) e;
             giver_known = both.0;
             taker_known = both.1;
-            apart = none_first (same_name giver taker) SelfDeal more four;
+            apart = none_first (same_bytes giver taker) SelfDeal more four;
             few = few;
           },
         )
@@ -188,17 +189,17 @@ module _ (m : Machine) (t : ℕ) where
   pub pay_entry : (id giver taker : List ℕ) (amount : ℕ) → refusal m t (verbs.Pay id giver taker amount) ≡ None → IsEntry id giver taker
   unfolding refusal
   pay_entry id giver taker amount e =
-      let own : List (Bool × Code) = (same_name giver taker, SelfDeal) ∷ places kinds.Pay in
+      let own : List (Bool × Code) = (same_bytes giver taker, SelfDeal) ∷ places kinds.Pay in
       let all : List (Bool × Code) = (unknown_parties m giver taker, Name) ∷ own in
       let two = none_after (is_used m.queue id) There all e in
       let three = none_after (unknown_parties m giver taker) Name own two in
-      let four = none_after (same_name giver taker) SelfDeal (places kinds.Pay) three in
+      let four = none_after (same_bytes giver taker) SelfDeal (places kinds.Pay) three in
       let both = parties_known giver taker (none_first (unknown_parties m giver taker) Name own two) in
       record {
         new = none_first (is_used m.queue id) There all e;
         giver_known = both.0;
         taker_known = both.1;
-        apart = none_first (same_name giver taker) SelfDeal (places kinds.Pay) three;
+        apart = none_first (same_bytes giver taker) SelfDeal (places kinds.Pay) three;
         few = few_placed kinds.Pay four;
       }
 

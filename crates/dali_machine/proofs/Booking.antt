@@ -4,8 +4,9 @@ use Rattle.std.specs.List.{All, IsDistinct}
 use Rattle.std.proofs.lemmas.Int.{ints}
 use Rattle.std.proofs.lemmas.List.Elements.{All-tail}
 use Rattle.dali_account.specs.declared.net.Move.{Move}
-use Rattle.dali_account.specs.Book.{BookRecord, same_name, has_account, has_asset, total_of}
+use Rattle.dali_account.specs.Book.{BookRecord, has_account, has_asset, total_of}
 use Rattle.dali_base.specs.Limits.{most_total}
+use Rattle.dali_base.specs.Readers.{same_bytes}
 use Rattle.dali_account.specs.Net.{pair_of, after_move, with_move, with_net}
 use Rattle.dali_account.specs.Units.{PairKey, Units, units_of, with_units}
 use Rattle.dali_account.proofs.KeptLemmas.{other_name}
@@ -33,7 +34,7 @@ posted_sum (x ∷ ms) ps command pair =
     omega (arith, ints, rest, first)
 
 symmetric : (p q : PairKey) → same_pair p q ≡ same_pair q p
-symmetric p q = ap (λ t. t && same_name p.1 q.1) (same_name_symm p.0 q.0) ∙ ap (λ t. same_name q.0 p.0 && t) (same_name_symm p.1 q.1)
+symmetric p q = ap (λ t. t && same_bytes p.1 q.1) (same_name_symm p.0 q.0) ∙ ap (λ t. same_bytes q.0 p.0 && t) (same_name_symm p.1 q.1)
 
 -- the units of each pair after a number was put at one
 pub moved_one : (m : Units) (p : PairKey) (n : ℕ) (z : ℤ) → pos n ≡ pos (units_of m p) +ℤ z → (pair : PairKey) → pos (units_of (with_units m p n) pair) ≡ pos (units_of m pair) +ℤ at_pair p.0 p.1 z pair
@@ -63,8 +64,8 @@ pub outside : (accounts : List (List ℕ)) (net : List Move) → All (λ (x : Mo
 outside accounts [] known pair absent = refl
 outside accounts (x ∷ ms) known pair absent =
     let rest = outside accounts ms (All-tail (λ (m : Move). has_account accounts m.account ≡ true) x ms known) pair absent in
-    let apart : same_name x.account pair.0 ≡ false = same_name_symm x.account pair.0 ∙ other_name accounts x.account pair.0 (known 0 x (omega arith)) absent in
-    let head : at_pair x.account x.asset x.delta pair ≡ pos 0 = ap (λ t. pick (t && same_name x.asset pair.1) x.delta) apart in
+    let apart : same_bytes x.account pair.0 ≡ false = same_name_symm x.account pair.0 ∙ other_name accounts x.account pair.0 (known 0 x (omega arith)) absent in
+    let head : at_pair x.account x.asset x.delta pair ≡ pos 0 = ap (λ t. pick (t && same_bytes x.asset pair.1) x.delta) apart in
     omega (arith, ints, rest, head)
 
 -- what a booking does: the moves are on the balances, and the book keeps its accounts, codes, limits and what only
@@ -113,7 +114,7 @@ module _ (m : Machine) (kept : IsMachine m) (command : ℕ) (book : BookRecord) 
     earmarked = λ pair absent.
         let unknown = ap (λ xs. has_account xs pair.0) (sym done.accounts) ∙ absent in
         done.earmarks pair unknown ∙ kept.earmarked pair unknown;
-    distinct = subst (λ xs. IsDistinct same_name xs) (sym done.accounts) kept.distinct;
+    distinct = subst (λ xs. IsDistinct same_bytes xs) (sym done.accounts) kept.distinct;
     limit = done.limit;
     prices = subst (λ (cs : List (List ℕ × ℕ)). All (λ c. 1 ≤ c.1) cs) (sym done.codes) kept.prices;
     known = λ k d h.
@@ -139,7 +140,7 @@ module _ (m : Machine) (account asset : List ℕ) (n earmark : ℕ) (z : ℤ) (t
     accounts = ap (λ (b : BookRecord). b.accounts) put;
     codes = ap (λ (b : BookRecord). b.codes) put;
     limit = limit;
-    outside = λ pair absent. one_delta pair ∙ ap (λ t. pick (t && same_name asset pair.1) z) (same_name_symm account pair.0 ∙ other_name m.book.accounts account pair.0 there absent);
+    outside = λ pair absent. one_delta pair ∙ ap (λ t. pick (t && same_bytes asset pair.1) z) (same_name_symm account pair.0 ∙ other_name m.book.accounts account pair.0 there absent);
     earmarks = λ pair absent. ap (λ (b : BookRecord). units_of b.earmarks pair) put
-        ∙ units_other m.book.earmarks (account, asset) earmark pair (ap (λ t. t && same_name pair.1 asset) (other_name m.book.accounts account pair.0 there absent));
+        ∙ units_other m.book.earmarks (account, asset) earmark pair (ap (λ t. t && same_bytes pair.1 asset) (other_name m.book.accounts account pair.0 there absent));
   }

@@ -17,11 +17,11 @@ use Rattle.dali_machine.specs.declared.report.CycleReport.{CycleReport}
 use Rattle.dali_line.specs.Reading.{command_of}
 use Rattle.dali_tree.specs.declared.choice.Choice.{Choice}
 use Rattle.dali_machine.specs.Cycles.{Cycling, accepted_cycle, cycling, HasChoice, report_of}
-use Rattle.dali_machine.specs.Step.{counted, at_moment, taken, turn, step, judged, judged_by, judged_command, verdict, is_report}
+use Rattle.dali_machine.specs.Step.{one_command_more, at_moment, taken, turn, step, judged, judged_by, judged_command, verdict, is_report}
 use Rattle.dali_machine.specs.Ready.{ReadyRecord, IsReady, IsMadeReady, IsAllowed, HasGoodFields, CanCommit, MayTake, HasNetFor, HasPlaceFor, HasPlaceForJudged, net_of_judged, cycle_in}
 
 -- what is refused, booked and answered doesn't turn on the count and the greatest moment
-pub refusal_counted : (m : Machine) (t u : ℕ) (verb : Verb) → refusal (at_moment (counted m) t) u verb ≡ refusal m u verb
+pub refusal_counted : (m : Machine) (t u : ℕ) (verb : Verb) → refusal (at_moment (one_command_more m) t) u verb ≡ refusal m u verb
 unfolding refusal
 refusal_counted m t u (Part account) = refl
 refusal_counted m t u (Inst code price) = refl
@@ -43,7 +43,7 @@ refusal_counted m t u (Release account asset n) = refl
 refusal_counted m t u (Link first second) = refl
 refusal_counted m t u (Rank id rank) = refl
 
-pub net_counted : (m : Machine) (t : ℕ) (verb : Verb) → net_for (at_moment (counted m) t) verb ≡ net_for m verb
+pub net_counted : (m : Machine) (t : ℕ) (verb : Verb) → net_for (at_moment (one_command_more m) t) verb ≡ net_for m verb
 unfolding net_for
 net_counted m t (Part account) = refl
 net_counted m t (Inst code price) = refl
@@ -65,7 +65,7 @@ net_counted m t (Release account asset n) = refl
 net_counted m t (Link first second) = refl
 net_counted m t (Rank id rank) = refl
 
-answered_counted : (m : Machine) (verb : Verb) → answered (counted m) verb ≡ answered m verb
+answered_counted : (m : Machine) (verb : Verb) → answered (one_command_more m) verb ≡ answered m verb
 answered_counted m (Part account) = refl
 answered_counted m (Inst code price) = refl
 answered_counted m (Issue account asset n) = refl
@@ -86,15 +86,15 @@ answered_counted m (Release account asset n) = refl
 answered_counted m (Link first second) = refl
 answered_counted m (Rank id rank) = refl
 
-report_counted : (m : Machine) (t budget : ℕ) (choice : Choice) → report_of (counted m) t budget choice ≡ report_of m t budget choice
+report_counted : (m : Machine) (t budget : ℕ) (choice : Choice) → report_of (one_command_more m) t budget choice ≡ report_of m t budget choice
 unfolding report_of
 report_counted m t budget choice = refl
 
-taken_counted : (m : Machine) (t : ℕ) (verb : Verb) (cycle : Option Cycling) → (taken (counted m) t verb cycle).outcome ≡ (taken m t verb cycle).outcome
+taken_counted : (m : Machine) (t : ℕ) (verb : Verb) (cycle : Option Cycling) → (taken (one_command_more m) t verb cycle).outcome ≡ (taken m t verb cycle).outcome
 taken_counted m t verb None = answered_counted m verb
 taken_counted m t verb (Some c) = ap outcomes.Cycle (report_counted m t c.budget c.choice)
 
-pub outcome_counted : (m : Machine) (j : Judged) (cycle : Option Cycling) → (turn (counted m) j cycle).outcome ≡ (turn m j cycle).outcome
+pub outcome_counted : (m : Machine) (j : Judged) (cycle : Option Cycling) → (turn (one_command_more m) j cycle).outcome ≡ (turn m j cycle).outcome
 outcome_counted m judgements.Form cycle = refl
 outcome_counted m judgements.Back cycle = refl
 outcome_counted m (judgements.No t code) cycle = refl
@@ -122,7 +122,7 @@ place_kept s m (Link first second) h = h
 place_kept s m (Rank id rank) h = h
 
 -- what `accept` may rely on, from what `commit` may
-pub may_take : (s : StateRecord) (t : ℕ) (verb : Verb) (ready : ReadyRecord) → CanCommit s ready → ready.judged ≡ judgements.Yes t verb → MayTake (record s { machine = at_moment (counted s.machine) t }) verb
+pub may_take : (s : StateRecord) (t : ℕ) (verb : Verb) (ready : ReadyRecord) → CanCommit s ready → ready.judged ≡ judgements.Yes t verb → MayTake (record s { machine = at_moment (one_command_more s.machine) t }) verb
 may_take s t verb ready can is =
     let allowed : refusal s.machine t verb ≡ None = subst (IsAllowed s.machine) is can.allowed in
     let fields : HasGoodFields (judgements.Yes t verb) = subst HasGoodFields is can.fields in
@@ -131,11 +131,11 @@ may_take s t verb ready can is =
       moment = t;
       allowed = refusal_counted s.machine t t verb ∙ allowed;
       fields = fields;
-      place = place_kept s (at_moment (counted s.machine) t) verb place;
+      place = place_kept s (at_moment (one_command_more s.machine) t) verb place;
     }
 
 pub netted : (s : StateRecord) (t : ℕ) (verb : Verb) (ready : ReadyRecord) → CanCommit s ready → cycle_in ready.outcome ≡ None → ready.judged ≡ judgements.Yes t verb →
-    HasNetFor (record s { machine = at_moment (counted s.machine) t }) verb ready.net
+    HasNetFor (record s { machine = at_moment (one_command_more s.machine) t }) verb ready.net
 netted s t verb ready can none is = record {
   is = can.net ∙ ap (λ c. net_of_judged s.machine ready.judged c) none ∙ ap (λ j. net_of_judged s.machine j None) is ∙ sym (net_counted s.machine t verb);
   lines = can.room.lines;
@@ -176,11 +176,11 @@ cycle_told m (judgements.Yes t (Link first second)) choice = refl
 cycle_told m (judgements.Yes t (Rank id rank)) choice = refl
 
 pub step_of_turn : (m : Machine) (edition : ℕ) (line : List ℕ) (choice : Option Choice) (ready : ReadyRecord) → IsReady edition m line choice ready →
-    (turn (counted m) ready.judged (cycle_in ready.outcome)).next ≡ (step edition m line choice).next
+    (turn (one_command_more m) ready.judged (cycle_in ready.outcome)).next ≡ (step edition m line choice).next
 unfolding step
 step_of_turn m edition line choice ready made =
-    ap (λ j. (turn (counted m) j (cycle_in ready.outcome)).next) made.judged
-    ∙ ap (λ c. (turn (counted m) (judged edition m line) c).next) (ap cycle_in (made.outcome ∙ step_outcome m edition line choice) ∙ cycle_told m (judged edition m line) choice)
+    ap (λ j. (turn (one_command_more m) j (cycle_in ready.outcome)).next) made.judged
+    ∙ ap (λ c. (turn (one_command_more m) (judged edition m line) c).next) (ap cycle_in (made.outcome ∙ step_outcome m edition line choice) ∙ cycle_told m (judged edition m line) choice)
 
 -- an accepted judgement was allowed
 pub judged_allowed : (m : Machine) (edition : ℕ) (line : List ℕ) (j : Judged) → j ≡ judged edition m line → IsAllowed m j

@@ -13,7 +13,7 @@ use Rattle.dali_line.specs.Reading.{command_of}
 use Rattle.dali_tree.specs.declared.choice.Choice.{Choice}
 use Rattle.dali_machine.specs.Cycles.{Cycling, cycled}
 use Rattle.dali_machine.specs.Effects.{accepted, settled}
-use Rattle.dali_machine.specs.Step.{counted, at_moment, taken, turn, judged, judged_by, judged_command, verdict}
+use Rattle.dali_machine.specs.Step.{one_command_more, at_moment, taken, turn, judged, judged_by, judged_command, verdict}
 use Rattle.dali_machine.specs.Ready.{ReadyRecord, IsReady, cycle_in}
 
 -- an accepted verb changes neither the count nor the greatest moment
@@ -55,31 +55,31 @@ taken_time : (m : Machine) (t : ℕ) (verb : Verb) (cycle : Option Cycling) → 
 taken_time m t verb None = accepted_time (at_moment m t) verb
 taken_time m t verb (Some c) = cycled_time (at_moment m t) c.choice
 
-pub turn_counted : (m : Machine) (j : Judged) (cycle : Option Cycling) → (turn (counted m) j cycle).next.commands ≡ m.commands + 1
+pub turn_counted : (m : Machine) (j : Judged) (cycle : Option Cycling) → (turn (one_command_more m) j cycle).next.commands ≡ m.commands + 1
 turn_counted m judgements.Form cycle = refl
 turn_counted m judgements.Back cycle = refl
 turn_counted m (judgements.No t code) cycle = refl
-turn_counted m (judgements.Yes t verb) cycle = (taken_time (counted m) t verb cycle).commands
+turn_counted m (judgements.Yes t verb) cycle = (taken_time (one_command_more m) t verb cycle).commands
 
 not_back : (t greatest : ℕ) → nat_lt t greatest ≡ false → greatest ≤ t
 not_back t greatest e = grind (arith, nat_tests)
 
 -- the greatest moment never falls
-judged_rises : (m : Machine) (edition : ℕ) (line : List ℕ) (cycle : Option Cycling) → m.greatest ≤ (turn (counted m) (judged edition m line) cycle).next.greatest
+judged_rises : (m : Machine) (edition : ℕ) (line : List ℕ) (cycle : Option Cycling) → m.greatest ≤ (turn (one_command_more m) (judged edition m line) cycle).next.greatest
 unfolding judged
 judged_rises m edition line cycle = by (command_of edition line)
   where
-    by_verdict : (c : Command) (o : Option Code) → m.greatest ≤ c.moment → m.greatest ≤ (turn (counted m) (judged_by c o) cycle).next.greatest
-    by_verdict c None on = subst (λ n. m.greatest ≤ n) (sym (taken_time (counted m) c.moment c.verb cycle).greatest) on
+    by_verdict : (c : Command) (o : Option Code) → m.greatest ≤ c.moment → m.greatest ≤ (turn (one_command_more m) (judged_by c o) cycle).next.greatest
+    by_verdict c None on = subst (λ n. m.greatest ≤ n) (sym (taken_time (one_command_more m) c.moment c.verb cycle).greatest) on
     by_verdict c (Some code) on = on
 
-    by : (o : Option Command) → m.greatest ≤ (turn (counted m) (judged_command m o) cycle).next.greatest
+    by : (o : Option Command) → m.greatest ≤ (turn (one_command_more m) (judged_command m o) cycle).next.greatest
     by None = omega arith
     by (Some c) = at (nat_lt c.moment m.greatest) refl
       where
-        at : (b : Bool) → nat_lt c.moment m.greatest ≡ b → m.greatest ≤ (turn (counted m) (cond b judgements.Back (judged_by c (verdict m c))) cycle).next.greatest
+        at : (b : Bool) → nat_lt c.moment m.greatest ≡ b → m.greatest ≤ (turn (one_command_more m) (cond b judgements.Back (judged_by c (verdict m c))) cycle).next.greatest
         at true e = omega arith
         at false e = by_verdict c (verdict m c) (not_back c.moment m.greatest e)
 
-pub turn_rises : (m : Machine) (edition : ℕ) (line : List ℕ) (choice : Option Choice) (ready : ReadyRecord) → IsReady edition m line choice ready → m.greatest ≤ (turn (counted m) ready.judged (cycle_in ready.outcome)).next.greatest
-turn_rises m edition line choice ready made = subst (λ j. m.greatest ≤ (turn (counted m) j (cycle_in ready.outcome)).next.greatest) (sym made.judged) (judged_rises m edition line (cycle_in ready.outcome))
+pub turn_rises : (m : Machine) (edition : ℕ) (line : List ℕ) (choice : Option Choice) (ready : ReadyRecord) → IsReady edition m line choice ready → m.greatest ≤ (turn (one_command_more m) ready.judged (cycle_in ready.outcome)).next.greatest
+turn_rises m edition line choice ready made = subst (λ j. m.greatest ≤ (turn (one_command_more m) j (cycle_in ready.outcome)).next.greatest) (sym made.judged) (judged_rises m edition line (cycle_in ready.outcome))

@@ -26,7 +26,7 @@ use Rattle.dali_machine.specs.Machine.{Machine, StateRecord}
 use Rattle.dali_machine.specs.Kept.{AreKnown, IsMachine}
 use Rattle.dali_machine.specs.Cycles.{Cycling, ids_at, input_at, places_in, net_of_set, with_set, cycled, problem_at, report_on, report_of}
 use Rattle.dali_machine.specs.Ready.{ReadyRecord, CanBook, CanCommit, IsSet, cycle_in, net_of_judged}
-use Rattle.dali_machine.specs.Step.{counted, at_moment, turn}
+use Rattle.dali_machine.specs.Step.{one_command_more, at_moment, turn}
 use Rattle.dali_machine.specs.declared.judged.Judged.{Judged}
 use Rattle.dali_machine.specs.declared.judged.Judged.TheVariants as judgements
 use Rattle.dali_machine.proofs.Booking.{IsBooked}
@@ -201,7 +201,7 @@ module _ (s : StateRecord) (t : ℕ) (verb : Verb) (ready : ReadyRecord) (c : Cy
   net_is : ready.net ≡ net_of_set s.machine t c.choice.places
   net_is = can.net ∙ ap (net_of_judged s.machine ready.judged) told ∙ ap (λ (j : Judged). net_of_judged s.machine j (Some c)) is
 
-  pub set_ready : IsSet (record s { machine = at_moment (counted s.machine) t }) ready.places ready.net
+  pub set_ready : IsSet (record s { machine = at_moment (one_command_more s.machine) t }) ready.places ready.net
   set_ready = record {
     is = net_is ∙ ap (λ ps. net_of (items_at s.machine.queue.waiting ps)) (sym places_are);
     rising = subst (AllPairs (λ i j. i < j)) (sym places_are) (set_rises s.machine t c.choice.places);
@@ -211,12 +211,12 @@ module _ (s : StateRecord) (t : ℕ) (verb : Verb) (ready : ReadyRecord) (c : Cy
     rows = can.room.rows;
   }
 
-  pub set_taken : with_set (at_moment (counted s.machine) t) ready.net ready.places ≡ (turn (counted s.machine) ready.judged (cycle_in ready.outcome)).next
+  pub set_taken : with_set (at_moment (one_command_more s.machine) t) ready.net ready.places ≡ (turn (one_command_more s.machine) ready.judged (cycle_in ready.outcome)).next
   unfolding cycled
   set_taken =
-      ap (λ ms. with_set (at_moment (counted s.machine) t) ms ready.places) net_is
-      ∙ ap (with_set (at_moment (counted s.machine) t) (net_of_set s.machine t c.choice.places)) places_are
-      ∙ sym (ap (λ (j : Judged). (turn (counted s.machine) j (cycle_in ready.outcome)).next) is ∙ ap (λ (o : Option Cycling). (turn (counted s.machine) (judgements.Yes t verb) o).next) told)
+      ap (λ ms. with_set (at_moment (one_command_more s.machine) t) ms ready.places) net_is
+      ∙ ap (with_set (at_moment (one_command_more s.machine) t) (net_of_set s.machine t c.choice.places)) places_are
+      ∙ sym (ap (λ (j : Judged). (turn (one_command_more s.machine) j (cycle_in ready.outcome)).next) is ∙ ap (λ (o : Option Cycling). (turn (one_command_more s.machine) (judgements.Yes t verb) o).next) told)
 
 -- what a cycle of an allowed choice answers is its report
 pub report_is : (m : Machine) (t budget : ℕ) (choice : Choice) → report_on (problem_at m t) (ids_at m (places_in m t choice.places)) budget choice ≡ report_of m t budget choice

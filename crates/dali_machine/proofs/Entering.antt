@@ -3,11 +3,12 @@ use Rattle.std.specs.Prelude.{unwrap_or}
 use Rattle.std.specs.List.{All}
 use Rattle.std.proofs.lemmas.List.Elements.{All-tail}
 use Rattle.std.proofs.Math.Nat.{mul-le-mul}
-use Rattle.dali_account.specs.Book.{same_name, cash, price_of}
+use Rattle.dali_account.specs.Book.{cash, price_of}
 use Rattle.dali_account.proofs.SumLemmas.{same_name_refl}
 use Rattle.dali_line.specs.declared.command.Verb.TheVariants as verbs
 use Rattle.dali_line.specs.Grammar.{IsQuantity}
 use Rattle.dali_base.specs.declared.kind.Kind.TheVariants as kinds
+use Rattle.dali_base.specs.Readers.{same_bytes}
 use Rattle.dali_queue.specs.Instruction.{IsAmount}
 use Rattle.dali_machine.specs.Machine.{StateRecord}
 use Rattle.dali_machine.specs.Kept.{IsMachine}
@@ -21,7 +22,7 @@ amount n q = record { from_one = q.least; to_most = q.most }
 -- a code that is there has a price of 1 at least
 priced : (codes : List (List ℕ × ℕ)) (x : List ℕ) → All (λ c. 1 ≤ c.1) codes → is_some (price_of codes x) ≡ true → 1 ≤ unwrap_or (price_of codes x) 0
 priced [] x all there = absurd (true≢false (sym there))
-priced (c ∷ cs) x all there = by (same_name x c.0) there (priced cs x (All-tail (λ c. 1 ≤ c.1) c cs all))
+priced (c ∷ cs) x all there = by (same_bytes x c.0) there (priced cs x (All-tail (λ c. 1 ≤ c.1) c cs all))
   where
     by : (b : Bool) → is_some (cond b (Some c.1) (price_of cs x)) ≡ true → (is_some (price_of cs x) ≡ true → 1 ≤ unwrap_or (price_of cs x) 0) → 1 ≤ unwrap_or (cond b (Some c.1) (price_of cs x)) 0
     by true h rest = all 0 c (omega arith)
@@ -57,7 +58,7 @@ may_enter_dvp s id giver taker code quantity cash take =
 pub fop_value : (s : StateRecord) (id giver taker code : List ℕ) (quantity : ℕ) → IsMachine s.machine → MayTake s (verbs.Fop id giver taker code quantity) → IsAmount (worth s.machine code quantity)
 fop_value s id giver taker code quantity kept take =
     let parts = fop_entry s.machine take.moment id giver taker code quantity take.allowed in
-    let price = priced s.machine.book.codes code kept.prices (not_cash (same_name code cash) (is_some (price_of s.machine.book.codes code)) parts.0.no_cash parts.0.known) in
+    let price = priced s.machine.book.codes code kept.prices (not_cash (same_bytes code cash) (is_some (price_of s.machine.book.codes code)) parts.0.no_cash parts.0.known) in
     record { from_one = some_product quantity (unwrap_or (price_of s.machine.book.codes code) 0) take.fields.4.least price; to_most = parts.2 }
 
 pub may_enter_fop : (s : StateRecord) (id giver taker code : List ℕ) (quantity : ℕ) → IsMachine s.machine → MayTake s (verbs.Fop id giver taker code quantity) →

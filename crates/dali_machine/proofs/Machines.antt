@@ -5,8 +5,9 @@ use Rattle.std.proofs.lemmas.Map.Keys.{IsDistinct-push}
 use Rattle.std.specs.Cmp.Lexicographic.{nat_list_eq_equiv}
 use Rattle.std.specs.List.{All, IsDistinct}
 use Rattle.std.specs.Option.{option_map_or}
-use Rattle.dali_account.specs.Book.{BookRecord, same_name, cash, has_account, has_asset, price_of, total_of}
+use Rattle.dali_account.specs.Book.{BookRecord, cash, has_account, has_asset, price_of, total_of}
 use Rattle.dali_base.specs.Limits.{most_total}
+use Rattle.dali_base.specs.Readers.{same_bytes}
 use Rattle.dali_account.specs.Units.{units_of}
 use Rattle.dali_queue.specs.declared.instruction.Instruction.{Instruction}
 use Rattle.dali_queue.specs.Groups.{in_group, group_of, with_group, regrouped, linked}
@@ -18,7 +19,7 @@ use Rattle.dali_machine.proofs.Allowed.{left_false}
 -- a code is found in more codes too
 some_more : (codes : List (List ℕ × ℕ)) (e : List ℕ × ℕ) (x : List ℕ) → is_some (price_of codes x) ≡ true → is_some (price_of (codes ++ e ∷ []) x) ≡ true
 some_more [] e x there = absurd (true≢false (sym there))
-some_more (c ∷ cs) e x there = by (same_name x c.0) there (some_more cs e x)
+some_more (c ∷ cs) e x there = by (same_bytes x c.0) there (some_more cs e x)
   where
     by : (b : Bool) → is_some (cond b (Some c.1) (price_of cs x)) ≡ true → (is_some (price_of cs x) ≡ true → is_some (price_of (cs ++ e ∷ []) x) ≡ true) →
         is_some (cond b (Some c.1) (price_of (cs ++ e ∷ []) x)) ≡ true
@@ -26,17 +27,17 @@ some_more (c ∷ cs) e x there = by (same_name x c.0) there (some_more cs e x)
     by false h rest = rest h
 
 asset_more : (codes : List (List ℕ × ℕ)) (e : List ℕ × ℕ) (x : List ℕ) → has_asset codes x ≡ true → has_asset (codes ++ e ∷ []) x ≡ true
-asset_more codes e x there = by (same_name x cash) there
+asset_more codes e x there = by (same_bytes x cash) there
   where
     by : (b : Bool) → (b || is_some (price_of codes x)) ≡ true → (b || is_some (price_of (codes ++ e ∷ []) x)) ≡ true
     by true h = refl
     by false h = some_more codes e x h
 
 account_more : (accounts : List (List ℕ)) (a x : List ℕ) → has_account accounts x ≡ true → has_account (accounts ++ a ∷ []) x ≡ true
-account_more accounts a x there = list_any-append (same_name x) accounts (a ∷ []) ∙ ap (λ b. b || has_account (a ∷ []) x) there
+account_more accounts a x there = list_any-append (same_bytes x) accounts (a ∷ []) ∙ ap (λ b. b || has_account (a ∷ []) x) there
 
 fewer_unknown : (accounts : List (List ℕ)) (a x : List ℕ) → has_account (accounts ++ a ∷ []) x ≡ false → has_account accounts x ≡ false
-fewer_unknown accounts a x absent = left_false (has_account accounts x) (has_account (a ∷ []) x) (sym (list_any-append (same_name x) accounts (a ∷ [])) ∙ absent)
+fewer_unknown accounts a x absent = left_false (has_account accounts x) (has_account (a ∷ []) x) (sym (list_any-append (same_bytes x) accounts (a ∷ [])) ∙ absent)
 
 module _ (m : Machine) (kept : IsMachine m) where
   pub machine_account : (account : List ℕ) (book : BookRecord) → book ≡ record m.book { accounts = m.book.accounts ++ account ∷ [] } → has_account m.book.accounts account ≡ false →
@@ -47,7 +48,7 @@ module _ (m : Machine) (kept : IsMachine m) where
         ∙ kept.owned pair (fewer_unknown m.book.accounts account pair.0 (ap (λ (b : BookRecord). has_account b.accounts pair.0) (sym is) ∙ absent));
     earmarked = λ pair absent. ap (λ (b : BookRecord). units_of b.earmarks pair) is
         ∙ kept.earmarked pair (fewer_unknown m.book.accounts account pair.0 (ap (λ (b : BookRecord). has_account b.accounts pair.0) (sym is) ∙ absent));
-    distinct = subst (λ (b : BookRecord). IsDistinct same_name b.accounts) (sym is) (IsDistinct-push nat_list_eq_equiv m.book.accounts account kept.distinct new);
+    distinct = subst (λ (b : BookRecord). IsDistinct same_bytes b.accounts) (sym is) (IsDistinct-push nat_list_eq_equiv m.book.accounts account kept.distinct new);
     limit = λ asset. subst (λ n. n ≤ most_total) (sym (totals asset)) (kept.limit asset);
     prices = subst (λ (b : BookRecord). All (λ c. 1 ≤ c.1) b.codes) (sym is) kept.prices;
     known = subst (λ (b : BookRecord). All (λ w. AreKnown b w.item) m.queue.waiting) (sym is) (λ k d h.
@@ -61,7 +62,7 @@ module _ (m : Machine) (kept : IsMachine m) where
     matched = λ pair. kept.matched pair ∙ ap (λ (b : BookRecord). pos (units_of b.balances pair)) (sym is);
     owned = λ pair absent. ap (λ (b : BookRecord). units_of b.balances pair) is ∙ kept.owned pair (ap (λ (b : BookRecord). has_account b.accounts pair.0) (sym is) ∙ absent);
     earmarked = λ pair absent. ap (λ (b : BookRecord). units_of b.earmarks pair) is ∙ kept.earmarked pair (ap (λ (b : BookRecord). has_account b.accounts pair.0) (sym is) ∙ absent);
-    distinct = subst (λ (b : BookRecord). IsDistinct same_name b.accounts) (sym is) kept.distinct;
+    distinct = subst (λ (b : BookRecord). IsDistinct same_bytes b.accounts) (sym is) kept.distinct;
     limit = λ asset. subst (λ n. n ≤ most_total) (sym (totals asset)) (kept.limit asset);
     prices = subst (λ (b : BookRecord). All (λ c. 1 ≤ c.1) b.codes) (sym is) (All-push (λ c. 1 ≤ c.1) m.book.codes (code, price) kept.prices some);
     known = subst (λ (b : BookRecord). All (λ w. AreKnown b w.item) m.queue.waiting) (sym is) (λ k d h.
@@ -74,7 +75,7 @@ module _ (m : Machine) (kept : IsMachine m) where
   machine_queue queue known = record { matched = kept.matched; owned = kept.owned; earmarked = kept.earmarked; distinct = kept.distinct; limit = kept.limit; prices = kept.prices; known = known }
 
   pub known_without : (id : List ℕ) → All (λ (w : Queued). AreKnown m.book w.item) (without m.queue.waiting id)
-  known_without id = All-filter (λ w. not (same_name id w.item.id)) (λ (w : Queued). AreKnown m.book w.item) m.queue.waiting kept.known
+  known_without id = All-filter (λ w. not (same_bytes id w.item.id)) (λ (w : Queued). AreKnown m.book w.item) m.queue.waiting kept.known
 
   pub known_entered : (i : Instruction) → AreKnown m.book i → All (λ (w : Queued). AreKnown m.book w.item) (entered m.queue i).waiting
   known_entered i there = All-push (λ (w : Queued). AreKnown m.book w.item) m.queue.waiting (record { item = i; group = i.id }) kept.known there
@@ -83,7 +84,7 @@ module _ (m : Machine) (kept : IsMachine m) where
   known_mapped f same = All-map (λ (w : Queued). AreKnown m.book w.item) f m.queue.waiting (λ k d h. same (get_or m.queue.waiting k d) (kept.known k d h))
 
   pub known_ranked : (id : List ℕ) (rank : ℕ) → All (λ (w : Queued). AreKnown m.book w.item) (ranked m.queue.waiting id rank)
-  known_ranked id rank = known_mapped (λ w. if same_name id w.item.id then with_rank w rank else w) (λ w there. by w there (same_name id w.item.id))
+  known_ranked id rank = known_mapped (λ w. if same_bytes id w.item.id then with_rank w rank else w) (λ w there. by w there (same_bytes id w.item.id))
     where
       by : (w : Queued) → AreKnown m.book w.item → (b : Bool) → AreKnown m.book (cond b (with_rank w rank) w).item
       by w there true = record { giver = there.giver; taker = there.taker; code = there.code }

@@ -5,8 +5,9 @@ use Rattle.std.proofs.lemmas.Int.{ints}
 use Rattle.std.proofs.lemmas.List.Sums.{sum_by-cons}
 use Rattle.std.proofs.lemmas.Map.Keys.{IsDistinct-head, IsDistinct-tail}
 use Rattle.dali_account.specs.declared.net.Move.{Move}
-use Rattle.dali_account.specs.Book.{BookRecord, same_name, cash, has_account, has_asset, knows_pair, total_of}
+use Rattle.dali_account.specs.Book.{BookRecord, cash, has_account, has_asset, knows_pair, total_of}
 use Rattle.dali_base.specs.Limits.{most_total}
+use Rattle.dali_base.specs.Readers.{same_bytes}
 use Rattle.dali_account.specs.Net.{pair_of, with_net}
 use Rattle.dali_account.specs.Units.{PairKey, Units, units_of}
 use Rattle.dali_account.proofs.PostLemmas.{ready_start}
@@ -27,25 +28,25 @@ both_true a b p q = ap (λ t. t && b) p ∙ q
 
 -- the moves of one account among distinct names
 module _ (a asset : List ℕ) (z : ℤ) (q : List ℕ) where
-  sum_none : (xs : List (List ℕ)) → AllByRecursion (λ y. same_name a y ≡ false) xs → sum_over (λ x. at_pair a asset z (x, q)) xs ≡ pos 0
+  sum_none : (xs : List (List ℕ)) → AllByRecursion (λ y. same_bytes a y ≡ false) xs → sum_over (λ x. at_pair a asset z (x, q)) xs ≡ pos 0
   sum_none [] h = refl
   sum_none (x ∷ xs) h =
       let rest = sum_none xs h.1 in
-      let head : at_pair a asset z (x, q) ≡ pos 0 = ap (λ t. pick (t && same_name asset q) z) h.0 in
+      let head : at_pair a asset z (x, q) ≡ pos 0 = ap (λ t. pick (t && same_bytes asset q) z) h.0 in
       omega (arith, ints, rest, head)
 
-  sum_at : (xs : List (List ℕ)) → IsDistinct same_name xs → has_account xs a ≡ true → sum_over (λ x. at_pair a asset z (x, q)) xs ≡ pick (same_name asset q) z
+  sum_at : (xs : List (List ℕ)) → IsDistinct same_bytes xs → has_account xs a ≡ true → sum_over (λ x. at_pair a asset z (x, q)) xs ≡ pick (same_bytes asset q) z
   sum_at [] distinct there = absurd (true≢false (sym there))
-  sum_at (x ∷ xs) distinct there = by (same_name a x) refl there (sum_at xs (IsDistinct-tail same_name x xs distinct))
+  sum_at (x ∷ xs) distinct there = by (same_bytes a x) refl there (sum_at xs (IsDistinct-tail same_bytes x xs distinct))
     where
-      by : (b : Bool) → same_name a x ≡ b → (b || has_account xs a) ≡ true → (has_account xs a ≡ true → sum_over (λ x. at_pair a asset z (x, q)) xs ≡ pick (same_name asset q) z) →
-          at_pair a asset z (x, q) +ℤ sum_over (λ x. at_pair a asset z (x, q)) xs ≡ pick (same_name asset q) z
+      by : (b : Bool) → same_bytes a x ≡ b → (b || has_account xs a) ≡ true → (has_account xs a ≡ true → sum_over (λ x. at_pair a asset z (x, q)) xs ≡ pick (same_bytes asset q) z) →
+          at_pair a asset z (x, q) +ℤ sum_over (λ x. at_pair a asset z (x, q)) xs ≡ pick (same_bytes asset q) z
       by true told h rest =
-          let head : at_pair a asset z (x, q) ≡ pick (same_name asset q) z = ap (λ t. pick (t && same_name asset q) z) told in
-          let others = sum_none xs (subst (λ r. AllByRecursion (λ y. same_name r y ≡ false) xs) (sym (same_name_is a x told)) (IsDistinct-head same_name x xs distinct)) in
+          let head : at_pair a asset z (x, q) ≡ pick (same_bytes asset q) z = ap (λ t. pick (t && same_bytes asset q) z) told in
+          let others = sum_none xs (subst (λ r. AllByRecursion (λ y. same_bytes r y ≡ false) xs) (sym (same_name_is a x told)) (IsDistinct-head same_bytes x xs distinct)) in
           omega (arith, ints, head, others)
       by false told h rest =
-          let head : at_pair a asset z (x, q) ≡ pos 0 = ap (λ t. pick (t && same_name asset q) z) told in
+          let head : at_pair a asset z (x, q) ≡ pos 0 = ap (λ t. pick (t && same_bytes asset q) z) told in
           let others = rest h in
           omega (arith, ints, head, others)
 
@@ -54,7 +55,7 @@ sum_four f g h k [] = omega (arith, ints)
 sum_four f g h k (x ∷ xs) = let rest = sum_four f g h k xs in omega (arith, ints, rest)
 
 -- an instruction moves units of an asset between accounts, and makes none
-effects_even : (i : Instruction) (q : List ℕ) (xs : List (List ℕ)) → IsDistinct same_name xs → has_account xs i.giver ≡ true → has_account xs i.taker ≡ true → sum_over (λ x. effect i (x, q)) xs ≡ pos 0
+effects_even : (i : Instruction) (q : List ℕ) (xs : List (List ℕ)) → IsDistinct same_bytes xs → has_account xs i.giver ≡ true → has_account xs i.taker ≡ true → sum_over (λ x. effect i (x, q)) xs ≡ pos 0
 unfolding effect moved
 effects_even i q xs distinct giver taker =
     let one = sum_at i.taker i.code (pos i.quantity) q xs distinct taker in

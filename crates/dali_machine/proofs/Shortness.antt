@@ -2,11 +2,12 @@ use Rattle.std.proofs.Common.{◌≡◌, ℕ, ◌<◌, ◌≤◌, ℤ, pos, neg_
 use Rattle.std.proofs.lemmas.Int.{ints}
 use Rattle.std.proofs.lemmas.Bool.Decides.{nat_tests}
 use Rattle.std.specs.Int.Signed.{lt_z, lt_z_yes, lt_z_no}
-use Rattle.dali_account.specs.Book.{BookRecord, same_name, cash}
+use Rattle.dali_account.specs.Book.{BookRecord, cash}
 use Rattle.dali_account.specs.Units.{units_of}
 use Rattle.dali_account.proofs.SumLemmas.{same_name_is, same_name_refl, same_name_symm}
 use Rattle.dali_base.specs.declared.kind.Kind.{Kind}
 use Rattle.dali_base.specs.declared.kind.Kind.TheVariants.{Dvp, Fop, Pay}
+use Rattle.dali_base.specs.Readers.{same_bytes}
 use Rattle.dali_problem.specs.Sums.{pick}
 use Rattle.dali_queue.specs.declared.instruction.Instruction.{Instruction}
 use Rattle.dali_queue.specs.Instruction.{IsInstruction, IsCash, is_payment, at_pair, moved, effect}
@@ -56,10 +57,10 @@ pick_none true = refl
 pick_none false = refl
 
 module _ (book : BookRecord) (i : Instruction) (kept : IsInstruction i) where
-  apart : same_name i.giver i.taker ≡ false
+  apart : same_bytes i.giver i.taker ≡ false
   apart = kept.parties
 
-  apart_back : same_name i.taker i.giver ≡ false
+  apart_back : same_bytes i.taker i.giver ≡ false
   apart_back = same_name_symm i.taker i.giver ∙ kept.parties
 
   -- where the code is cash, there is no cash beside it
@@ -69,19 +70,19 @@ module _ (book : BookRecord) (i : Instruction) (kept : IsInstruction i) where
   payment_alone Pay n e h = h
 
   -- a move of the asset at the pair of the account and the other asset
-  own : (account asset other : List ℕ) (z : ℤ) → at_pair account asset z (account, other) ≡ pick (same_name asset other) z
-  own account asset other z = ap (λ t. pick (t && same_name asset other) z) (same_name_refl account)
+  own : (account asset other : List ℕ) (z : ℤ) → at_pair account asset z (account, other) ≡ pick (same_bytes asset other) z
+  own account asset other z = ap (λ t. pick (t && same_bytes asset other) z) (same_name_refl account)
 
-  foreign : (account asset other : List ℕ) (x : List ℕ) (z : ℤ) → same_name account x ≡ false → at_pair account asset z (x, other) ≡ pos 0
-  foreign account asset other x z e = ap (λ t. pick (t && same_name asset other) z) e
+  foreign : (account asset other : List ℕ) (x : List ℕ) (z : ℤ) → same_bytes account x ≡ false → at_pair account asset z (x, other) ≡ pos 0
+  foreign account asset other x z e = ap (λ t. pick (t && same_bytes asset other) z) e
 
-  same_asset : (asset : List ℕ) (z : ℤ) → pick (same_name asset asset) z ≡ z
+  same_asset : (asset : List ℕ) (z : ℤ) → pick (same_bytes asset asset) z ≡ z
   same_asset asset z = ap (λ t. pick t z) (same_name_refl asset)
 
-  cash_back : same_name cash i.code ≡ is_payment i.kind
+  cash_back : same_bytes cash i.code ≡ is_payment i.kind
   cash_back = same_name_symm cash i.code ∙ kept.code
 
-  no_cash_beside : pick (same_name cash i.code) (pos i.cash) ≡ pos 0
+  no_cash_beside : pick (same_bytes cash i.code) (pos i.cash) ≡ pos 0
   no_cash_beside = ap (λ t. pick t (pos i.cash)) cash_back ∙ by (is_payment i.kind) refl
     where
       by : (b : Bool) → is_payment i.kind ≡ b → pick b (pos i.cash) ≡ pos 0
@@ -111,7 +112,7 @@ module _ (book : BookRecord) (i : Instruction) (kept : IsInstruction i) where
       let six = no_cash_beside in
       omega (arith, ints, one, two, three, four, five, six)
 
-  cash_at_giver : effect i (i.giver, cash) ≡ pos i.cash -ℤ pick (same_name i.code cash) (pos i.quantity)
+  cash_at_giver : effect i (i.giver, cash) ≡ pos i.cash -ℤ pick (same_bytes i.code cash) (pos i.quantity)
   unfolding effect moved
   cash_at_giver =
       let one = foreign i.taker i.code cash i.giver (pos i.quantity) apart_back in
@@ -121,7 +122,7 @@ module _ (book : BookRecord) (i : Instruction) (kept : IsInstruction i) where
       let five = foreign i.taker cash cash i.giver (pos i.cash) apart_back in
       omega (arith, ints, one, two, three, four, five)
 
-  cash_at_taker : effect i (i.taker, cash) ≡ pick (same_name i.code cash) (pos i.quantity) -ℤ pos i.cash
+  cash_at_taker : effect i (i.taker, cash) ≡ pick (same_bytes i.code cash) (pos i.quantity) -ℤ pos i.cash
   unfolding effect moved
   cash_at_taker =
       let one = own i.taker i.code cash (pos i.quantity) in
@@ -153,7 +154,7 @@ module _ (book : BookRecord) (i : Instruction) (kept : IsInstruction i) where
     where
       by : (b : Bool) → is_payment i.kind ≡ b → is_short book i ≡ (nat_lt (bal i.giver i.code) i.quantity || nat_lt (bal i.taker cash) i.cash)
       by false e =
-          let none : pick (same_name i.code cash) (pos i.quantity) ≡ pos 0 = ap (λ t. pick t (pos i.quantity)) (kept.code ∙ e) in
+          let none : pick (same_bytes i.code cash) (pos i.quantity) ≡ pos 0 = ap (λ t. pick t (pos i.quantity)) (kept.code ∙ e) in
           let third : effect i (i.giver, cash) ≡ pos i.cash = cash_at_giver ∙ omega (arith, ints, none) in
           let fourth : effect i (i.taker, cash) ≡ neg_ℤ (pos i.cash) = cash_at_taker ∙ omega (arith, ints, none) in
           tests (lacks book i (i.giver, i.code)) (lacks book i (i.taker, i.code)) (lacks book i (i.giver, cash)) (lacks book i (i.taker, cash))
@@ -166,7 +167,7 @@ module _ (book : BookRecord) (i : Instruction) (kept : IsInstruction i) where
       by true e =
           let is : i.code ≡ cash = same_name_is i.code cash (kept.code ∙ e) in
           let none : i.cash ≡ 0 = payment_alone i.kind i.cash e kept.cash in
-          let all : pick (same_name i.code cash) (pos i.quantity) ≡ pos i.quantity = ap (λ t. pick t (pos i.quantity)) (kept.code ∙ e) in
+          let all : pick (same_bytes i.code cash) (pos i.quantity) ≡ pos i.quantity = ap (λ t. pick t (pos i.quantity)) (kept.code ∙ e) in
           let fourth : effect i (i.taker, cash) ≡ pos i.quantity = cash_at_taker ∙ omega (arith, ints, all, none) in
           let third : lacks book i (i.giver, cash) ≡ nat_lt (bal i.giver i.code) i.quantity =
           ap (λ x. lacks book i (i.giver, x)) (sym is) ∙ taken (bal i.giver i.code) i.quantity (effect i (i.giver, i.code)) at_giver in

@@ -1,7 +1,7 @@
 use Rattle.std.proofs.Common.{◌≡◌, ℕ, ◌+◌, ◌-◌, pos, neg_ℤ, ◌+ℤ◌, ◌-ℤ◌, Bool, true, false, not, List, [], ◌∷◌, ◌++◌, Option, Some, None, nat_lt, refl, sym, ap, ◌∙◌, subst, arith}
 use Rattle.std.proofs.lemmas.Int.{ints}
 use Rattle.std.proofs.lemmas.List.Sums.{sum_by_push}
-use Rattle.dali_account.specs.Book.{same_name, has_account, knows_pair, balance_of, earmark_of, total_of, with_pair}
+use Rattle.dali_account.specs.Book.{has_account, knows_pair, balance_of, earmark_of, total_of, with_pair}
 use Rattle.dali_base.specs.Limits.{most_total}
 use Rattle.dali_account.specs.Units.{units_of}
 use Rattle.dali_account.proofs.SumLemmas.{same_name_is, same_name_symm, first_true, held_other, held_moved}
@@ -11,6 +11,7 @@ use Rattle.dali_queue.specs.Queue.{item_of}
 use Rattle.dali_line.specs.declared.command.Verb.{Verb}
 use Rattle.dali_line.specs.declared.command.Verb.TheVariants as verbs
 use Rattle.std.specs.Prelude.{IfSome}
+use Rattle.dali_base.specs.Readers.{same_bytes}
 use Rattle.dali_machine.specs.Cycles.{Cycling}
 use Rattle.dali_machine.specs.Machine.{Machine, StateRecord}
 use Rattle.dali_machine.specs.Kept.{IsMachine}
@@ -19,7 +20,7 @@ use Rattle.dali_machine.specs.declared.judged.Judged.{Judged}
 use Rattle.dali_machine.specs.declared.judged.Judged.TheVariants as judgements
 use Rattle.dali_machine.specs.Refusals.{refusal}
 use Rattle.dali_machine.specs.Effects.{accepted, settled}
-use Rattle.dali_machine.specs.Step.{counted, at_moment, turn}
+use Rattle.dali_machine.specs.Step.{one_command_more, at_moment, turn}
 use Rattle.dali_machine.specs.Ready.{ReadyRecord, IsAllowed, CanBook, CanCommit, cycle_in}
 use Rattle.dali_machine.specs.Totals.{total_change, judged_change, KeepsTotals}
 use Rattle.dali_machine.proofs.Allowed.{none_first, none_after, is_true, not_above, part_new}
@@ -38,13 +39,13 @@ module _ (m : Machine) (kept : IsMachine m) where
   -- the totals after new numbers at a pair of an account
   module _ (account asset : List ℕ) (balance earmark up down : ℕ) (there : has_account m.book.accounts account ≡ true)
       (moved : balance + earmark + down ≡ balance_of m.book account asset + earmark_of m.book account asset + up) where
-    put : (q : List ℕ) → pos (total_of (with_pair m.book account asset balance earmark) q) ≡ pos (total_of m.book q) +ℤ pick (same_name asset q) (pos up -ℤ pos down)
-    put q = by (same_name asset q) refl
+    put : (q : List ℕ) → pos (total_of (with_pair m.book account asset balance earmark) q) ≡ pos (total_of m.book q) +ℤ pick (same_bytes asset q) (pos up -ℤ pos down)
+    put q = by (same_bytes asset q) refl
       where
         own : total_of (with_pair m.book account asset balance earmark) asset + down ≡ total_of m.book asset + up
         own = held_moved m.book.accounts m.book.balances m.book.earmarks account asset balance earmark up down moved kept.distinct there
 
-        by : (b : Bool) → same_name asset q ≡ b → pos (total_of (with_pair m.book account asset balance earmark) q) ≡ pos (total_of m.book q) +ℤ pick b (pos up -ℤ pos down)
+        by : (b : Bool) → same_bytes asset q ≡ b → pos (total_of (with_pair m.book account asset balance earmark) q) ≡ pos (total_of m.book q) +ℤ pick b (pos up -ℤ pos down)
         by true told = subst (λ r. pos (total_of (with_pair m.book account asset balance earmark) r) ≡ pos (total_of m.book r) +ℤ (pos up -ℤ pos down)) (same_name_is asset q told) (omega (arith, ints, own))
         by false told =
             let same = held_other m.book.accounts m.book.balances m.book.earmarks account asset balance earmark q (same_name_symm q asset ∙ told) in
@@ -64,15 +65,15 @@ module _ (m : Machine) (kept : IsMachine m) where
   -- the totals after an accepted verb
   module _ (t : ℕ) where
     issue_totals : (account asset : List ℕ) (n : ℕ) → refusal m t (verbs.Issue account asset n) ≡ None → (q : List ℕ) →
-        pos (total_of (accepted m (verbs.Issue account asset n)).book q) ≡ pos (total_of m.book q) +ℤ pick (same_name asset q) (pos n)
+        pos (total_of (accepted m (verbs.Issue account asset n)).book q) ≡ pos (total_of m.book q) +ℤ pick (same_bytes asset q) (pos n)
     unfolding refusal accepted
     issue_totals account asset n allowed q =
         let there = known_account account asset (none_first (not (knows_pair m.book account asset)) Name ((nat_lt most_total (total_of m.book asset + n), Total) ∷ []) allowed) in
         put account asset (balance_of m.book account asset + n) (earmark_of m.book account asset) n 0 there (omega arith) q
-        ∙ ap (λ z. pos (total_of m.book q) +ℤ pick (same_name asset q) z) (omega (arith, ints))
+        ∙ ap (λ z. pos (total_of m.book q) +ℤ pick (same_bytes asset q) z) (omega (arith, ints))
 
     draw_totals : (account asset : List ℕ) (n : ℕ) → refusal m t (verbs.Draw account asset n) ≡ None → (q : List ℕ) →
-        pos (total_of (accepted m (verbs.Draw account asset n)).book q) ≡ pos (total_of m.book q) +ℤ pick (same_name asset q) (neg_ℤ (pos n))
+        pos (total_of (accepted m (verbs.Draw account asset n)).book q) ≡ pos (total_of m.book q) +ℤ pick (same_bytes asset q) (neg_ℤ (pos n))
     unfolding refusal accepted
     draw_totals account asset n allowed q =
         let unknown : Bool = not (knows_pair m.book account asset) in
@@ -80,7 +81,7 @@ module _ (m : Machine) (kept : IsMachine m) where
         let enough = not_above (balance_of m.book account asset) n (none_first few Short [] (none_after unknown Name ((few, Short) ∷ []) allowed)) in
         put account asset (balance_of m.book account asset - n) (earmark_of m.book account asset) 0 n
         (known_account account asset (none_first unknown Name ((few, Short) ∷ []) allowed)) (omega (arith, enough)) q
-        ∙ ap (λ z. pos (total_of m.book q) +ℤ pick (same_name asset q) z) (omega (arith, ints))
+        ∙ ap (λ z. pos (total_of m.book q) +ℤ pick (same_bytes asset q) z) (omega (arith, ints))
 
     earmark_totals : (account asset : List ℕ) (n : ℕ) → refusal m t (verbs.Earmark account asset n) ≡ None → (q : List ℕ) →
         pos (total_of (accepted m (verbs.Earmark account asset n)).book q) ≡ pos (total_of m.book q) +ℤ pos 0
@@ -91,7 +92,7 @@ module _ (m : Machine) (kept : IsMachine m) where
         let enough = not_above (balance_of m.book account asset) n (none_first few Short [] (none_after unknown Name ((few, Short) ∷ []) allowed)) in
         put account asset (balance_of m.book account asset - n) (earmark_of m.book account asset + n) 0 0
         (known_account account asset (none_first unknown Name ((few, Short) ∷ []) allowed)) (omega (arith, enough)) q
-        ∙ ap (λ z. pos (total_of m.book q) +ℤ z) (never (same_name asset q))
+        ∙ ap (λ z. pos (total_of m.book q) +ℤ z) (never (same_bytes asset q))
 
     release_totals : (account asset : List ℕ) (n : ℕ) → refusal m t (verbs.Release account asset n) ≡ None → (q : List ℕ) →
         pos (total_of (accepted m (verbs.Release account asset n)).book q) ≡ pos (total_of m.book q) +ℤ pos 0
@@ -102,7 +103,7 @@ module _ (m : Machine) (kept : IsMachine m) where
         let enough = not_above (earmark_of m.book account asset) n (none_first few Short [] (none_after unknown Name ((few, Short) ∷ []) allowed)) in
         put account asset (balance_of m.book account asset + n) (earmark_of m.book account asset - n) 0 0
         (known_account account asset (none_first unknown Name ((few, Short) ∷ []) allowed)) (omega (arith, enough)) q
-        ∙ ap (λ z. pos (total_of m.book q) +ℤ z) (never (same_name asset q))
+        ∙ ap (λ z. pos (total_of m.book q) +ℤ z) (never (same_bytes asset q))
 
     settle_totals : (id : List ℕ) → refusal m t (verbs.Settle id) ≡ None → (q : List ℕ) → pos (total_of (accepted m (verbs.Settle id)).book q) ≡ pos (total_of m.book q) +ℤ pos 0
     unfolding accepted
@@ -135,32 +136,32 @@ module _ (m : Machine) (kept : IsMachine m) where
     accepted_totals (verbs.Rank id rank) allowed q = same_total (total_of m.book q)
 
 -- what holds of a state holds with another count and moment
-counted_kept : (m : Machine) (t : ℕ) → IsMachine m → IsMachine (at_moment (counted m) t)
+counted_kept : (m : Machine) (t : ℕ) → IsMachine m → IsMachine (at_moment (one_command_more m) t)
 counted_kept m t kept = record { matched = kept.matched; owned = kept.owned; earmarked = kept.earmarked; distinct = kept.distinct; limit = kept.limit; prices = kept.prices; known = kept.known }
 
 -- a cycle moves units between accounts, and makes none
 cycled_totals : (s : StateRecord) (t : ℕ) (verb : Verb) (ready : ReadyRecord) (c : Cycling) → IsMachine s.machine → (can : CanCommit s ready) → (told : cycle_in ready.outcome ≡ Some c) → (is : ready.judged ≡ judgements.Yes t verb) → (q : List ℕ) →
-    pos (total_of (turn (counted s.machine) ready.judged (cycle_in ready.outcome)).next.book q) ≡ pos (total_of s.machine.book q) +ℤ pos 0
+    pos (total_of (turn (one_command_more s.machine) ready.judged (cycle_in ready.outcome)).next.book q) ≡ pos (total_of s.machine.book q) +ℤ pos 0
 cycled_totals s t verb ready c kept can told is q =
     let set = set_ready s t verb ready c can told is in
     ap (λ (m : Machine). pos (total_of m.book q)) (sym (set_taken s t verb ready c can told is))
-    ∙ ap pos (set_total (record s { machine = at_moment (counted s.machine) t }) ready.places ready.net (counted_kept s.machine t kept) set q)
+    ∙ ap pos (set_total (record s { machine = at_moment (one_command_more s.machine) t }) ready.places ready.net (counted_kept s.machine t kept) set q)
     ∙ same_total (total_of s.machine.book q)
 
 -- a judged line that is allowed keeps the totals
-pub turn_totals : (s : StateRecord) (ready : ReadyRecord) → IsMachine s.machine → CanCommit s ready → KeepsTotals ready.judged s.machine.book (turn (counted s.machine) ready.judged (cycle_in ready.outcome)).next.book
+pub turn_totals : (s : StateRecord) (ready : ReadyRecord) → IsMachine s.machine → CanCommit s ready → KeepsTotals ready.judged s.machine.book (turn (one_command_more s.machine) ready.judged (cycle_in ready.outcome)).next.book
 turn_totals s ready kept can = by_cycle (cycle_in ready.outcome) refl
   where
-    plain : (j : Judged) → IsAllowed s.machine j → KeepsTotals j s.machine.book (turn (counted s.machine) j None).next.book
+    plain : (j : Judged) → IsAllowed s.machine j → KeepsTotals j s.machine.book (turn (one_command_more s.machine) j None).next.book
     plain judgements.Form allowed = record { totals = λ q. same_total (total_of s.machine.book q) }
     plain judgements.Back allowed = record { totals = λ q. same_total (total_of s.machine.book q) }
     plain (judgements.No t code) allowed = record { totals = λ q. same_total (total_of s.machine.book q) }
     plain (judgements.Yes t verb) allowed = record {
-      totals = λ q. accepted_totals (at_moment (counted s.machine) t) (counted_kept s.machine t kept) t verb (refusal_counted s.machine t t verb ∙ allowed) q;
+      totals = λ q. accepted_totals (at_moment (one_command_more s.machine) t) (counted_kept s.machine t kept) t verb (refusal_counted s.machine t t verb ∙ allowed) q;
     }
 
-    by_cycle : (o : Option Cycling) → cycle_in ready.outcome ≡ o → KeepsTotals ready.judged s.machine.book (turn (counted s.machine) ready.judged (cycle_in ready.outcome)).next.book
-    by_cycle None told = subst (λ (o : Option Cycling). KeepsTotals ready.judged s.machine.book (turn (counted s.machine) ready.judged o).next.book) (sym told) (plain ready.judged can.allowed)
+    by_cycle : (o : Option Cycling) → cycle_in ready.outcome ≡ o → KeepsTotals ready.judged s.machine.book (turn (one_command_more s.machine) ready.judged (cycle_in ready.outcome)).next.book
+    by_cycle None told = subst (λ (o : Option Cycling). KeepsTotals ready.judged s.machine.book (turn (one_command_more s.machine) ready.judged o).next.book) (sym told) (plain ready.judged can.allowed)
     by_cycle (Some c) told =
         let book : CanBook s.machine ready c = subst (λ (o : Option Cycling). IfSome o (CanBook s.machine ready)) told can.cycle in
         record {

@@ -1,8 +1,9 @@
 use Rattle.std.proofs.Common.{◌≡◌, ◌≢◌, ℕ, ◌+◌, ◌-◌, ◌≤◌, pos, neg_ℤ, Bool, true, false, not, true≢false, List, [], ◌∷◌, None, nat_lt, refl, sym, ap, ◌∙◌, subst, arith}
 use Rattle.std.proofs.lemmas.Int.{ints}
 use Rattle.dali_account.specs.declared.net.Move.{Move}
-use Rattle.dali_account.specs.Book.{BookRecord, same_name, has_account, has_asset, knows_pair, balance_of, earmark_of, total_of, issued, drawn, after_earmark, after_release}
+use Rattle.dali_account.specs.Book.{BookRecord, has_account, has_asset, knows_pair, balance_of, earmark_of, total_of, issued, drawn, after_earmark, after_release}
 use Rattle.dali_base.specs.Limits.{most_total}
+use Rattle.dali_base.specs.Readers.{same_bytes}
 use Rattle.dali_account.proofs.SumLemmas.{same_name_is, same_name_refl, first_true}
 use Rattle.dali_line.specs.declared.command.Verb.{Verb}
 use Rattle.dali_line.specs.declared.command.Verb.TheVariants as verbs
@@ -62,8 +63,8 @@ module _ (m : Machine) (t : ℕ) (account asset : List ℕ) (n : ℕ) where
   account_known known = first_true (has_account m.book.accounts account) (has_asset m.book.codes asset) known
 
   -- an asset that the test tells apart is another one
-  other_asset : (q : List ℕ) → same_name q asset ≡ false → q ≢ asset
-  other_asset q told is = true≢false (sym (ap (λ r. same_name r asset) is ∙ same_name_refl asset) ∙ told)
+  other_asset : (q : List ℕ) → same_bytes q asset ≡ false → q ≢ asset
+  other_asset q told is = true≢false (sym (ap (λ r. same_bytes r asset) is ∙ same_name_refl asset) ∙ told)
 
   pub issue_booked : (book : BookRecord) → IsMachine m → refusal m t (verbs.Issue account asset n) ≡ None → book ≡ issued m.book account asset n →
       total_of book asset ≡ total_of m.book asset + n → ((q : List ℕ) → q ≢ asset → total_of book q ≡ total_of m.book q) → IsBooked m book (one_move account asset (pos n))
@@ -74,9 +75,9 @@ module _ (m : Machine) (t : ℕ) (account asset : List ℕ) (n : ℕ) where
       let most = not_above most_total (total_of m.book asset + n) (none_first large Total [] (none_after unknown Name ((large, Total) ∷ []) allowed)) in
       booked_one m account asset (balance_of m.book account asset + n) (earmark_of m.book account asset) (pos n)
       (account_known (is_true (knows_pair m.book account asset) (none_first unknown Name ((large, Total) ∷ []) allowed))) (omega (arith, ints)) book is
-      (λ q. by q most (same_name q asset) refl)
+      (λ q. by q most (same_bytes q asset) refl)
     where
-      by : (q : List ℕ) → total_of m.book asset + n ≤ most_total → (b : Bool) → same_name q asset ≡ b → total_of book q ≤ most_total
+      by : (q : List ℕ) → total_of m.book asset + n ≤ most_total → (b : Bool) → same_bytes q asset ≡ b → total_of book q ≤ most_total
       by q most true told = subst (λ r. total_of book r ≤ most_total) (sym (same_name_is q asset told)) (subst (λ k. k ≤ most_total) (sym own) most)
       by q most false told = subst (λ k. k ≤ most_total) (sym (others q (other_asset q told))) (kept.limit q)
 
@@ -89,9 +90,9 @@ module _ (m : Machine) (t : ℕ) (account asset : List ℕ) (n : ℕ) where
       let enough = not_above (balance_of m.book account asset) n (none_first few Short [] (none_after unknown Name ((few, Short) ∷ []) allowed)) in
       booked_one m account asset (balance_of m.book account asset - n) (earmark_of m.book account asset) (neg_ℤ (pos n))
       (account_known (is_true (knows_pair m.book account asset) (none_first unknown Name ((few, Short) ∷ []) allowed))) (omega (arith, ints, enough)) book is
-      (λ q. by q (same_name q asset) refl)
+      (λ q. by q (same_bytes q asset) refl)
     where
-      by : (q : List ℕ) → (b : Bool) → same_name q asset ≡ b → total_of book q ≤ most_total
+      by : (q : List ℕ) → (b : Bool) → same_bytes q asset ≡ b → total_of book q ≤ most_total
       by q true told =
           let before = kept.limit asset in
           subst (λ r. total_of book r ≤ most_total) (sym (same_name_is q asset told)) (omega (arith, own, before))

@@ -1,5 +1,5 @@
 use Rattle.std.specs.List.{filter}
-use Rattle.dali_account.specs.Book.{same_name}
+use Rattle.dali_base.specs.Readers.{same_bytes}
 use Rattle.dali_account.specs.Pairs.{pairs_of}
 use Rattle.dali_waiting.specs.Rows.{waiting_rows, held_ids}
 use Rattle.dali_line.specs.declared.command.Verb.{Verb}
@@ -17,7 +17,7 @@ refused code = No code
 abbrev pub answered : Machine → Verb → Outcome
 answered m verbs.Queue = Queue (waiting_rows m.queue)
 answered m (verbs.Stat account) = Stat (pairs_of m.book account) (held_ids m.queue account)
-answered m (verbs.Ledger account) = Ledger (filter (λ p. same_name p.account account) m.postings)
+answered m (verbs.Ledger account) = Ledger (filter (λ p. same_bytes p.account account) m.postings)
 answered m _ = Done
 
 -- where a cycle is answered, its report is true

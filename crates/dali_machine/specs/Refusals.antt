@@ -3,8 +3,9 @@ use Rattle.std.specs.List.{list_any}
 use Rattle.std.specs.Option.{option_map_or}
 use Rattle.dali_base.specs.declared.kind.Kind.{Kind}
 use Rattle.dali_base.specs.declared.kind.Kind.TheVariants as kinds
-use Rattle.dali_account.specs.Book.{BookRecord, same_name, cash, has_account, has_asset, price_of, knows_pair, balance_of, earmark_of, total_of}
+use Rattle.dali_account.specs.Book.{BookRecord, cash, has_account, has_asset, price_of, knows_pair, balance_of, earmark_of, total_of}
 use Rattle.dali_base.specs.Limits.{most_quantity, most_total}
+use Rattle.dali_base.specs.Readers.{same_bytes}
 use Rattle.dali_account.specs.Limits.{most_accounts, most_codes}
 use Rattle.dali_account.specs.Units.{PairKey, units_of}
 use Rattle.dali_problem.specs.Rules.{is_negative}
@@ -95,13 +96,13 @@ sentences m t (Issue account asset n) =
 sentences m t (Draw account asset n) =
     (unknown_pair m account asset, Name) ∷ (nat_lt (balance_of m.book account asset) n, Short) ∷ []
 sentences m t (Dvp id seller buyer code quantity amount) =
-    (is_used m.queue id, There) ∷ (unknown_parties m seller buyer || unknown_asset m code, Name) ∷ (same_name code cash, Cash)
-    ∷ (same_name seller buyer, SelfDeal) ∷ (is_late m kinds.Dvp t, Late) ∷ (is_full m, Full) ∷ []
+    (is_used m.queue id, There) ∷ (unknown_parties m seller buyer || unknown_asset m code, Name) ∷ (same_bytes code cash, Cash)
+    ∷ (same_bytes seller buyer, SelfDeal) ∷ (is_late m kinds.Dvp t, Late) ∷ (is_full m, Full) ∷ []
 sentences m t (Fop id from to code quantity) =
-    (is_used m.queue id, There) ∷ (unknown_parties m from to || unknown_asset m code, Name) ∷ (same_name code cash, Cash)
-    ∷ (same_name from to, SelfDeal) ∷ (nat_lt most_quantity (worth m code quantity), Value) ∷ (is_late m kinds.Fop t, Late) ∷ (is_full m, Full) ∷ []
+    (is_used m.queue id, There) ∷ (unknown_parties m from to || unknown_asset m code, Name) ∷ (same_bytes code cash, Cash)
+    ∷ (same_bytes from to, SelfDeal) ∷ (nat_lt most_quantity (worth m code quantity), Value) ∷ (is_late m kinds.Fop t, Late) ∷ (is_full m, Full) ∷ []
 sentences m t (Pay id from to amount) =
-    (is_used m.queue id, There) ∷ (unknown_parties m from to, Name) ∷ (same_name from to, SelfDeal)
+    (is_used m.queue id, There) ∷ (unknown_parties m from to, Name) ∷ (same_bytes from to, SelfDeal)
     ∷ (is_late m kinds.Pay t, Late) ∷ (is_full m, Full) ∷ []
 sentences m t (Cancel id) = (not_queued m id, Gone) ∷ []
 sentences m t (Settle id) =
@@ -118,7 +119,7 @@ sentences m t (Earmark account asset n) =
 sentences m t (Release account asset n) =
     (unknown_pair m account asset, Name) ∷ (nat_lt (earmark_of m.book account asset) n, Short) ∷ []
 sentences m t (Link first second) =
-    (not_queued m first || not_queued m second, Gone) ∷ (same_name first second, SelfDeal)
+    (not_queued m first || not_queued m second, Gone) ∷ (same_bytes first second, SelfDeal)
     ∷ (same_group m.queue.waiting first second, There)
     ∷ (nat_lt most_linked (group_size m.queue.waiting first + group_size m.queue.waiting second), Full) ∷ []
 sentences m t (Rank id rank) = (not_queued m id, Gone) ∷ []

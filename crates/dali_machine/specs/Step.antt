@@ -44,8 +44,8 @@ pub record Turn : Type 0 where
   pub next : Machine
   pub outcome : Outcome
 
-abbrev pub counted : Machine → Machine
-counted m = record m { commands = m.commands + 1 }
+abbrev pub one_command_more : Machine → Machine
+one_command_more m = record m { commands = m.commands + 1 }
 
 abbrev pub at_moment : Machine → ℕ → Machine
 at_moment m t = record m { greatest = t }
@@ -67,4 +67,4 @@ turn m (judgements.Yes t verb) cycle = taken m t verb cycle
 unfoldable pub step : ℕ → Machine → List ℕ → Option Choice → Turn
 step edition m line choice =
     let judgement = judged edition m line in
-    turn (counted m) judgement (cycling (accepted_cycle judgement) choice)
+    turn (one_command_more m) judgement (cycling (accepted_cycle judgement) choice)

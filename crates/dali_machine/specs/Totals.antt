@@ -1,5 +1,6 @@
 use Rattle.std.specs.Prelude.{◌≡◌, ℕ, ℤ, pos, neg_ℤ, ◌+ℤ◌, List}
-use Rattle.dali_account.specs.Book.{BookRecord, same_name, total_of}
+use Rattle.dali_base.specs.Readers.{same_bytes}
+use Rattle.dali_account.specs.Book.{BookRecord, total_of}
 use Rattle.dali_problem.specs.Sums.{pick}
 use Rattle.dali_line.specs.declared.command.Verb.{Verb}
 use Rattle.dali_line.specs.declared.command.Verb.TheVariants.{Issue, Draw}
@@ -9,8 +10,8 @@ use Rattle.dali_machine.specs.declared.judged.Judged.TheVariants as judgements
 -- what an accepted verb adds to the total of an asset: ISSUE adds its quantity to its asset's, DRAW takes its quantity
 -- from its asset's, and nothing else changes a total
 abbrev pub total_change : Verb → List ℕ → ℤ
-total_change (Issue account asset n) q = pick (same_name asset q) (pos n)
-total_change (Draw account asset n) q = pick (same_name asset q) (neg_ℤ (pos n))
+total_change (Issue account asset n) q = pick (same_bytes asset q) (pos n)
+total_change (Draw account asset n) q = pick (same_bytes asset q) (neg_ℤ (pos n))
 total_change _ q = pos 0
 
 -- what a judged line adds: a refused one nothing

@@ -84,8 +84,8 @@ abbrev pub torn : List ℕ → ℕ → List ℕ
 torn piece n = take n piece ++ replicate (length piece - n) 238
 
 -- a count of disk faults after a call
-abbrev pub counted : Bool → ℕ → ℕ
-counted fails n = if fails then one_more n else n
+abbrev pub faults_after : Bool → ℕ → ℕ
+faults_after fails n = if fails then one_more n else n
 
 -- the board after its next call, which left this sight and this number of bytes that writes have replaced
 abbrev pub board_at : Board → Sight → ℕ → Board
@@ -108,7 +108,7 @@ sight_read s fails = record {
   loose = s.loose;
   printed = s.printed;
   past = s.past;
-  disk_faults = counted fails s.disk_faults;
+  disk_faults = faults_after fails s.disk_faults;
   print_faults = s.print_faults;
   syncs = s.syncs;
 }
@@ -134,7 +134,7 @@ sight_written s fails at stands = record {
   loose = overlay s.loose at (replicate (length stands) true);
   printed = s.printed;
   past = s.past;
-  disk_faults = counted fails s.disk_faults;
+  disk_faults = faults_after fails s.disk_faults;
   print_faults = s.print_faults;
   syncs = s.syncs;
 }
@@ -174,7 +174,7 @@ sight_printed s fails went = record {
   printed = s.printed ++ went;
   past = after_print s went;
   disk_faults = s.disk_faults;
-  print_faults = counted fails s.print_faults;
+  print_faults = faults_after fails s.print_faults;
   syncs = s.syncs;
 }
 

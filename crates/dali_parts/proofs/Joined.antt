@@ -12,7 +12,7 @@ use Rattle.dali_problem.specs.Clearing.{Clearing, balance, worth, effect}
 use Rattle.dali_problem.specs.Limits.{IsProblem}
 use Rattle.dali_problem.specs.Sums.{sum_below, sum_over, pick}
 use Rattle.dali_problem.specs.Rules.{all_below}
-use Rattle.dali_problem.specs.Feasible.{ArePlaces, IsFeasible, booked, value_of}
+use Rattle.dali_problem.specs.Feasible.{ArePlaces, IsFeasible, booked, value_of, has}
 use Rattle.dali_problem.proofs.SumLaws.{sum_below_same, sum_below_zero}
 use Rattle.dali_problem.proofs.SetLaws.{is_in, is_in_of, contains_of, booked_in}
 use Rattle.dali_tree.specs.declared.tree.End.TheVariants as ends
@@ -27,7 +27,7 @@ use Rattle.dali_rest.specs.Swappable.{CanSwap}
 use Rattle.dali_check.specs.Allowed.{Allowed, IsCertified}
 use Rattle.dali_check.specs.Lean.{lean_part}
 use Rattle.dali_check.specs.Proves.{proves_part}
-use Rattle.dali_check.specs.Sides.{has, opened}
+use Rattle.dali_check.specs.Sides.{opened}
 use Rattle.dali_check.specs.Parts.{some_has, ArePartition, changes, AreSeparate, bound_of, branchings_of, value_in_part}
 use Rattle.dali_check.proofs.Certified.{certified, allowed_of}
 use Rattle.dali_check.proofs.Entering.{has_of, contains_has, opened_length}

@@ -9,7 +9,7 @@ use Rattle.std.proofs.lemmas.List.Sums.{sum_by-cons}
 use Rattle.dali_problem.specs.declared.mark.Mark.{Mark}
 use Rattle.dali_problem.specs.declared.mark.Mark.TheVariants.{Chosen, Left}
 use Rattle.dali_problem.specs.Clearing.{Clearing, worth}
-use Rattle.dali_problem.specs.Feasible.{ArePlaces, value_of}
+use Rattle.dali_problem.specs.Feasible.{ArePlaces, value_of, has}
 use Rattle.dali_problem.specs.Partial.{mark, is_undecided}
 use Rattle.dali_problem.specs.Sums.{sum_below, sum_over, pick}
 use Rattle.dali_problem.proofs.RuleTests.{undecided_is}
@@ -28,7 +28,7 @@ use Rattle.dali_tree.specs.Ends.{end_count}
 use Rattle.dali_fixes.specs.Fixed.{after}
 use Rattle.dali_reduce.specs.Reduced.{undecided_count}
 use Rattle.dali_reduce.proofs.Taken.{taken_counted}
-use Rattle.dali_check.specs.Sides.{has, when_fixed}
+use Rattle.dali_check.specs.Sides.{when_fixed}
 use Rattle.dali_check.specs.Parts.{some_has, ArePartition, value_in_part, branchings_of}
 use Rattle.dali_check.specs.Proves.{proves_end, proves_tree}
 use Rattle.dali_check.specs.Ends.{proves_ends}

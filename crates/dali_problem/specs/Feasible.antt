@@ -1,5 +1,5 @@
-use Rattle.std.specs.Prelude.{ℕ, ◌<◌, ℤ, pos, ◌+ℤ◌, ◌≤ℤ◌, List, length, sum_by}
-use Rattle.std.specs.List.{All, AllPairs}
+use Rattle.std.specs.Prelude.{ℕ, ◌<◌, ◌==◌, ℤ, pos, ◌+ℤ◌, ◌≤ℤ◌, Bool, List, length, sum_by}
+use Rattle.std.specs.List.{All, AllPairs, list_any}
 use Rattle.dali_problem.specs.Sums.{sum_over}
 use Rattle.dali_problem.specs.Clearing.{Clearing, balance, worth, effect}
 
@@ -7,6 +7,10 @@ use Rattle.dali_problem.specs.Clearing.{Clearing, balance, worth, effect}
 pub record ArePlaces (p : Clearing) (s : List ℕ) : Type 0 where
   pub rising : AllPairs (λ i j. i < j) s
   pub in_range : All (λ j. j < length p.items) s
+
+-- whether j is among these places
+abbrev pub has : List ℕ → ℕ → Bool
+has places j = list_any (λ k. k == j) places
 
 -- line l after all of a set at once
 abbrev pub booked : Clearing → List ℕ → ℕ → ℤ

@@ -15,12 +15,12 @@ pub record IsPayable (p : Clearing) (s r : List ℕ) : Type 0 where
       pos 0 ≤ℤ (booked p s l +ℤ effect p j l +ℤ credits_of p r l)
 
 -- each of r is in c
-pub record IsPart (r c : List ℕ) : Type 0 where
+pub record IsSubset (r c : List ℕ) : Type 0 where
   pub part : (j : ℕ) → Contains r j → Contains c j
 
 -- r is the greatest list within c that can be paid after s
 pub record IsRest (p : Clearing) (s c r : List ℕ) : Type 0 where
   pub places : ArePlaces p r
-  pub within : IsPart r c
+  pub within : IsSubset r c
   pub payable : IsPayable p s r
-  pub greatest : (t : List ℕ) → ArePlaces p t → IsPart t c → IsPayable p s t → IsPart t r
+  pub greatest : (t : List ℕ) → ArePlaces p t → IsSubset t c → IsPayable p s t → IsSubset t r

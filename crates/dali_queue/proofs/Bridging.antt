@@ -8,8 +8,9 @@ use Rattle.std.proofs.lemmas.List.Folds.{list_any-append}
 use Rattle.std.proofs.lemmas.List.Elements.{All-nil, All-cons, recursion_from_All}
 use Rattle.std.proofs.lemmas.Map.Keys.{IsDistinct-from_sorted, apart_from_distinct}
 use Rattle.dali_base.specs.NameList.{knows, place_of}
+use Rattle.dali_base.specs.Readers.{same_bytes}
 use Rattle.dali_account.specs.declared.net.Move.{Move}
-use Rattle.dali_account.specs.Book.{BookRecord, same_name}
+use Rattle.dali_account.specs.Book.{BookRecord}
 use Rattle.dali_account.specs.Net.{pair_of}
 use Rattle.dali_account.specs.Units.{PairKey, pair_cmp, units_of}
 use Rattle.dali_account.proofs.SumLemmas.{same_name_is, same_name_refl, same_name_symm}
@@ -36,7 +37,7 @@ same_over f g [] h = refl
 same_over f g (x ∷ xs) h = let rest = same_over f g xs h.1 in let first = h.0 in omega (arith, ints, rest, first)
 
 tied_symm : (p r : PairKey) → tied p r ≡ tied r p
-tied_symm p r = sym (pair_ties p r) ∙ ap (λ t. t && same_name p.1 r.1) (same_name_symm p.0 r.0) ∙ ap (λ t. same_name r.0 p.0 && t) (same_name_symm p.1 r.1) ∙ pair_ties r p
+tied_symm p r = sym (pair_ties p r) ∙ ap (λ t. t && same_bytes p.1 r.1) (same_name_symm p.0 r.0) ∙ ap (λ t. same_bytes r.0 p.0 && t) (same_name_symm p.1 r.1) ∙ pair_ties r p
 
 or_right : (a b : Bool) → b ≡ true → (a || b) ≡ true
 or_right true b h = refl
@@ -83,7 +84,7 @@ groups_there test (w ∷ ws) = by (test w) refl (groups_there test ws)
     by true e rest = (
       λ h. ap (λ b. b || knows (map (λ (w : Queued). w.group) (filter test ws)) w.group) (same_name_refl w.group),
       weaken (λ v. test v ≡ true → knows (map (λ (w : Queued). w.group) (filter test ws)) v.group ≡ true) (λ v. test v ≡ true → knows (w.group ∷ map (λ (w : Queued). w.group) (filter test ws)) v.group ≡ true) ws
-          (λ v k h. or_right (same_name v.group w.group) (knows (map (λ (w : Queued). w.group) (filter test ws)) v.group) (k h)) rest,
+          (λ v k h. or_right (same_bytes v.group w.group) (knows (map (λ (w : Queued). w.group) (filter test ws)) v.group) (k h)) rest,
     )
     by false e rest = (λ h. absurd (true≢false (sym h ∙ e)), rest)
 
@@ -107,21 +108,21 @@ module _ (book : BookRecord) (q : QueueRecord) (t : ℕ) where
   pairs = changed_by nets
 
   -- group j is the instruction's own exactly where j is its number
-  tells_group : (w : Queued) (k : ℕ) → k < length gs → same_name w.group (group k) ≡ true → (j : ℕ) → j < length gs → in_group (group j) w ≡ eqb j k
+  tells_group : (w : Queued) (k : ℕ) → k < length gs → same_bytes w.group (group k) ≡ true → (j : ℕ) → j < length gs → in_group (group j) w ≡ eqb j k
   tells_group w k within own j fits = by (eqb j k) refl
     where
       is : w.group ≡ group k
       is = same_name_is w.group (group k) own
 
-      by : (b : Bool) → eqb j k ≡ b → same_name (group j) w.group ≡ b
+      by : (b : Bool) → eqb j k ≡ b → same_bytes (group j) w.group ≡ b
       by true e =
           let same : j ≡ k = grind (arith, nat_tests, e) in
-          ap (λ i. same_name (group i) w.group) same ∙ same_name_symm (group k) w.group ∙ own
-      by false e = ap (same_name (group j)) is ∙ apart (ltb j k) refl
+          ap (λ i. same_bytes (group i) w.group) same ∙ same_name_symm (group k) w.group ∙ own
+      by false e = ap (same_bytes (group j)) is ∙ apart (ltb j k) refl
         where
-          apart : (b : Bool) → ltb j k ≡ b → same_name (group j) (group k) ≡ false
-          apart true less = apart_from_distinct same_name gs j k [] (each_distinct names) (grind (arith, nat_tests, less)) within
-          apart false less = same_name_symm (group j) (group k) ∙ apart_from_distinct same_name gs k j [] (each_distinct names) (grind (arith, nat_tests, less, e)) fits
+          apart : (b : Bool) → ltb j k ≡ b → same_bytes (group j) (group k) ≡ false
+          apart true less = apart_from_distinct same_bytes gs j k [] (each_distinct names) (grind (arith, nat_tests, less)) within
+          apart false less = same_name_symm (group j) (group k) ∙ apart_from_distinct same_bytes gs k j [] (each_distinct names) (grind (arith, nat_tests, less, e)) fits
 
   gs_eligible : All (λ g. is_eligible q t g ≡ true) gs
   gs_eligible = each_all (λ g. is_eligible q t g ≡ true) names (groups_pass (is_eligible q t) q.waiting)
@@ -134,9 +135,9 @@ module _ (book : BookRecord) (q : QueueRecord) (t : ℕ) where
       where
         by : (b : Bool) → may_settle q t w ≡ b → pick (b && list_any (λ i. eqb i (number w)) set) x ≡ sum_over (λ j. pick (in_group (group j) w) x) set
         by true e =
-            let found = place_found (same_name w.group) gs (each_known names w.group (known e)) in
+            let found = place_found (same_bytes w.group) gs (each_known names w.group (known e)) in
             let k : ℕ = found.0 in
-            let here : IsPlaceOf (same_name w.group) gs k = found.1 in
+            let here : IsPlaceOf (same_bytes w.group) gs k = found.1 in
             ap (λ o. pick (list_any (λ i. eqb i (unwrap_or o 0)) set) x) here.is
             ∙ sym (sum_one x k (length gs) (λ j. in_group (group j) w) (tells_group w k here.within (here.passes [])) set rising fits)
         by false e = sym (sum_nothing (λ j. pick (in_group (group j) w) x) set (weaken (λ j. j < length gs) (λ j. pick (in_group (group j) w) x ≡ pos 0) set (λ j less. none j less) (recursion_from_All (λ j. j < length gs) set fits)))

@@ -6,7 +6,7 @@ use Rattle.std.proofs.lemmas.Map.Keys.{IsDistinct-head, IsDistinct-tail}
 use Rattle.std.proofs.lemmas.Bool.Decides.{nat_tests}
 use Rattle.std.proofs.lemmas.List.Folds.{list_any-append}
 use Rattle.indexmap.specs.Layout.{set_value_at}
-use Rattle.dali_account.specs.Book.{same_name}
+use Rattle.dali_base.specs.Readers.{same_bytes}
 use Rattle.dali_account.proofs.SumLemmas.{same_name_is}
 use Rattle.dali_queue.specs.declared.entries.Entry.{Entry}
 use Rattle.dali_queue.specs.Queue.{others, with_rank, ranked}
@@ -18,61 +18,61 @@ abbrev pub ranked_entry : Entry → ℕ → Entry
 ranked_entry e rank = record e { item = record e.item { rank = rank } }
 
 -- no entry has the id
-ranked_none : (es : List (List ℕ × Entry)) (id : List ℕ) (rank : ℕ) → Stored es → AllByRecursion (λ k. same_name id k ≡ false) (keys_of es) → map queued_of es ≡ ranked (map queued_of es) id rank
+ranked_none : (es : List (List ℕ × Entry)) (id : List ℕ) (rank : ℕ) → Stored es → AllByRecursion (λ k. same_bytes id k ≡ false) (keys_of es) → map queued_of es ≡ ranked (map queued_of es) id rank
 ranked_none [] id rank kept none = refl
 ranked_none (e ∷ es) id rank kept none =
-    let apart : same_name id e.1.item.id ≡ false = ap (same_name id) (sym kept.0.0) ∙ none.0 in
+    let apart : same_bytes id e.1.item.id ≡ false = ap (same_bytes id) (sym kept.0.0) ∙ none.0 in
     ap (λ ws. queued_of e ∷ ws) (ranked_none es id rank kept.1 none.1)
     ∙ ap (λ b. cond b (with_rank (queued_of e) rank) (queued_of e) ∷ ranked (map queued_of es) id rank) (sym apart)
 
-pub ranked_absent : (es : List (List ℕ × Entry)) (id : List ℕ) (rank : ℕ) → Stored es → lookup (same_name id) es ≡ None → map queued_of es ≡ ranked (map queued_of es) id rank
+pub ranked_absent : (es : List (List ℕ × Entry)) (id : List ℕ) (rank : ℕ) → Stored es → lookup (same_bytes id) es ≡ None → map queued_of es ≡ ranked (map queued_of es) id rank
 ranked_absent [] id rank kept none = refl
-ranked_absent (e ∷ es) id rank kept none = by (same_name id e.0) refl (ranked_absent es id rank kept.1)
+ranked_absent (e ∷ es) id rank kept none = by (same_bytes id e.0) refl (ranked_absent es id rank kept.1)
   where
-    by : (b : Bool) → same_name id e.0 ≡ b → (lookup (same_name id) es ≡ None → map queued_of es ≡ ranked (map queued_of es) id rank) → map queued_of (e ∷ es) ≡ ranked (map queued_of (e ∷ es)) id rank
-    by true told rest = absurd (cc (none, ap (λ t. cond t (Some e.1) (lookup (same_name id) es)) told))
+    by : (b : Bool) → same_bytes id e.0 ≡ b → (lookup (same_bytes id) es ≡ None → map queued_of es ≡ ranked (map queued_of es) id rank) → map queued_of (e ∷ es) ≡ ranked (map queued_of (e ∷ es)) id rank
+    by true told rest = absurd (cc (none, ap (λ t. cond t (Some e.1) (lookup (same_bytes id) es)) told))
     by false told rest =
-        let later : lookup (same_name id) es ≡ None = sym (ap (λ t. cond t (Some e.1) (lookup (same_name id) es)) told) ∙ none in
-        let apart : same_name id e.1.item.id ≡ false = ap (same_name id) (sym kept.0.0) ∙ told in
+        let later : lookup (same_bytes id) es ≡ None = sym (ap (λ t. cond t (Some e.1) (lookup (same_bytes id) es)) told) ∙ none in
+        let apart : same_bytes id e.1.item.id ≡ false = ap (same_bytes id) (sym kept.0.0) ∙ told in
         ap (λ ws. queued_of e ∷ ws) (rest later) ∙ ap (λ b. cond b (with_rank (queued_of e) rank) (queued_of e) ∷ ranked (map queued_of es) id rank) (sym apart)
 
 -- a new rank for the entry under the id
-pub ranked_set : (es : List (List ℕ × Entry)) (id : List ℕ) (rank : ℕ) (e : Entry) → Stored es → IsDistinct same_name (keys_of es) → lookup (same_name id) es ≡ Some e →
-    map queued_of (set_value (same_name id) es (ranked_entry e rank)) ≡ ranked (map queued_of es) id rank
+pub ranked_set : (es : List (List ℕ × Entry)) (id : List ℕ) (rank : ℕ) (e : Entry) → Stored es → IsDistinct same_bytes (keys_of es) → lookup (same_bytes id) es ≡ Some e →
+    map queued_of (set_value (same_bytes id) es (ranked_entry e rank)) ≡ ranked (map queued_of es) id rank
 ranked_set [] id rank e kept distinct found = refl
-ranked_set (x ∷ es) id rank e kept distinct found = by (same_name id x.0) refl (ranked_set es id rank e kept.1 (IsDistinct-tail same_name x.0 (keys_of es) distinct))
+ranked_set (x ∷ es) id rank e kept distinct found = by (same_bytes id x.0) refl (ranked_set es id rank e kept.1 (IsDistinct-tail same_bytes x.0 (keys_of es) distinct))
   where
-    by : (b : Bool) → same_name id x.0 ≡ b → (lookup (same_name id) es ≡ Some e → map queued_of (set_value (same_name id) es (ranked_entry e rank)) ≡ ranked (map queued_of es) id rank) →
-        map queued_of (cond b ((x.0, ranked_entry e rank) ∷ es) (x ∷ set_value (same_name id) es (ranked_entry e rank))) ≡ ranked (map queued_of (x ∷ es)) id rank
+    by : (b : Bool) → same_bytes id x.0 ≡ b → (lookup (same_bytes id) es ≡ Some e → map queued_of (set_value (same_bytes id) es (ranked_entry e rank)) ≡ ranked (map queued_of es) id rank) →
+        map queued_of (cond b ((x.0, ranked_entry e rank) ∷ es) (x ∷ set_value (same_bytes id) es (ranked_entry e rank))) ≡ ranked (map queued_of (x ∷ es)) id rank
     by true told rest =
-        let first : Some x.1 ≡ Some e = sym (ap (λ t. cond t (Some x.1) (lookup (same_name id) es)) told) ∙ found in
+        let first : Some x.1 ≡ Some e = sym (ap (λ t. cond t (Some x.1) (lookup (same_bytes id) es)) told) ∙ found in
         let is : x.1 ≡ e = cc in
-        let own : same_name id x.1.item.id ≡ true = ap (same_name id) (sym kept.0.0) ∙ told in
+        let own : same_bytes id x.1.item.id ≡ true = ap (same_bytes id) (sym kept.0.0) ∙ told in
         let key : x.0 ≡ id = sym (same_name_is id x.0 told) in
-        let none = subst (λ k. AllByRecursion (λ q. same_name k q ≡ false) (keys_of es)) key (IsDistinct-head same_name x.0 (keys_of es) distinct) in
+        let none = subst (λ k. AllByRecursion (λ q. same_bytes k q ≡ false) (keys_of es)) key (IsDistinct-head same_bytes x.0 (keys_of es) distinct) in
         ap (λ (f : Entry). queued_of (id, ranked_entry f rank) ∷ map queued_of es) (sym is)
         ∙ ap (λ ws. with_rank (queued_of x) rank ∷ ws) (ranked_none es id rank kept.1 none)
         ∙ ap (λ b. cond b (with_rank (queued_of x) rank) (queued_of x) ∷ ranked (map queued_of es) id rank) (sym own)
     by false told rest =
-        let later : lookup (same_name id) es ≡ Some e = sym (ap (λ t. cond t (Some x.1) (lookup (same_name id) es)) told) ∙ found in
-        let apart : same_name id x.1.item.id ≡ false = ap (same_name id) (sym kept.0.0) ∙ told in
+        let later : lookup (same_bytes id) es ≡ Some e = sym (ap (λ t. cond t (Some x.1) (lookup (same_bytes id) es)) told) ∙ found in
+        let apart : same_bytes id x.1.item.id ≡ false = ap (same_bytes id) (sym kept.0.0) ∙ told in
         ap (λ ws. queued_of x ∷ ws) (rest later) ∙ ap (λ b. cond b (with_rank (queued_of x) rank) (queued_of x) ∷ ranked (map queued_of es) id rank) (sym apart)
 
-pub stored_set : (es : List (List ℕ × Entry)) (id : List ℕ) (rank : ℕ) (e : Entry) → Stored es → lookup (same_name id) es ≡ Some e → Stored (set_value (same_name id) es (ranked_entry e rank))
+pub stored_set : (es : List (List ℕ × Entry)) (id : List ℕ) (rank : ℕ) (e : Entry) → Stored es → lookup (same_bytes id) es ≡ Some e → Stored (set_value (same_bytes id) es (ranked_entry e rank))
 stored_set [] id rank e kept found = tt
-stored_set (x ∷ es) id rank e kept found = by (same_name id x.0) refl (stored_set es id rank e kept.1)
+stored_set (x ∷ es) id rank e kept found = by (same_bytes id x.0) refl (stored_set es id rank e kept.1)
   where
-    by : (b : Bool) → same_name id x.0 ≡ b → (lookup (same_name id) es ≡ Some e → Stored (set_value (same_name id) es (ranked_entry e rank))) → Stored (cond b ((x.0, ranked_entry e rank) ∷ es) (x ∷ set_value (same_name id) es (ranked_entry e rank)))
+    by : (b : Bool) → same_bytes id x.0 ≡ b → (lookup (same_bytes id) es ≡ Some e → Stored (set_value (same_bytes id) es (ranked_entry e rank))) → Stored (cond b ((x.0, ranked_entry e rank) ∷ es) (x ∷ set_value (same_bytes id) es (ranked_entry e rank)))
     by true told rest =
-        let first : Some x.1 ≡ Some e = sym (ap (λ t. cond t (Some x.1) (lookup (same_name id) es)) told) ∙ found in
+        let first : Some x.1 ≡ Some e = sym (ap (λ t. cond t (Some x.1) (lookup (same_bytes id) es)) told) ∙ found in
         let is : x.1 ≡ e = cc in
         ((kept.0.0 ∙ ap (λ (f : Entry). f.item.id) is, sym (ap (λ (f : Entry). f.leaving) is) ∙ kept.0.1), kept.1)
-    by false told rest = (kept.0, rest (sym (ap (λ t. cond t (Some x.1) (lookup (same_name id) es)) told) ∙ found))
+    by false told rest = (kept.0, rest (sym (ap (λ t. cond t (Some x.1) (lookup (same_bytes id) es)) told) ∙ found))
 
 -- entries of one group put into another
 pub stored_regrouped : (from to : List ℕ) (es : List (List ℕ × Entry)) → Stored es → Stored (map (regrouped_entry from to) es)
 stored_regrouped from to [] kept = tt
-stored_regrouped from to (e ∷ es) kept = (by (same_name from e.1.group), stored_regrouped from to es kept.1)
+stored_regrouped from to (e ∷ es) kept = (by (same_bytes from e.1.group), stored_regrouped from to es kept.1)
   where
     by : (b : Bool) → IsStored (e.0, cond b (record e.1 { group = to }) e.1)
     by true = kept.0
@@ -80,30 +80,30 @@ stored_regrouped from to (e ∷ es) kept = (by (same_name from e.1.group), store
 
 pub queued_regrouped : (from to : List ℕ) (es : List (List ℕ × Entry)) → map queued_of (map (regrouped_entry from to) es) ≡ regrouped (map queued_of es) from to
 queued_regrouped from to [] = refl
-queued_regrouped from to (e ∷ es) = ap (λ w. w ∷ map queued_of (map (regrouped_entry from to) es)) (by (same_name from e.1.group)) ∙ ap (λ ws. cond (same_name from e.1.group) (with_group (queued_of e) to) (queued_of e) ∷ ws) (queued_regrouped from to es)
+queued_regrouped from to (e ∷ es) = ap (λ w. w ∷ map queued_of (map (regrouped_entry from to) es)) (by (same_bytes from e.1.group)) ∙ ap (λ ws. cond (same_bytes from e.1.group) (with_group (queued_of e) to) (queued_of e) ∷ ws) (queued_regrouped from to es)
   where
     by : (b : Bool) → queued_of (e.0, cond b (record e.1 { group = to }) e.1) ≡ cond b (with_group (queued_of e) to) (queued_of e)
     by true = refl
     by false = refl
 
 -- the entry at k is put into the other group, or stays
-pub regrouped_yes : (from to : List ℕ) (es : List (List ℕ × Entry)) (k : ℕ) (v : Entry) → slice_get (values_of (map (regrouped_entry from to) (take k es) ++ drop k es)) k ≡ Some v → same_name from v.group ≡ true →
+pub regrouped_yes : (from to : List ℕ) (es : List (List ℕ × Entry)) (k : ℕ) (v : Entry) → slice_get (values_of (map (regrouped_entry from to) (take k es) ++ drop k es)) k ≡ Some v → same_bytes from v.group ≡ true →
     set_value_at (map (regrouped_entry from to) (take k es) ++ drop k es) k (record v { group = to }) ≡ map (regrouped_entry from to) (take (suc k) es) ++ drop (suc k) es
 regrouped_yes from to [] zero v at told = refl
 regrouped_yes from to [] (suc k) v at told = refl
 regrouped_yes from to (e ∷ es) zero v at told =
     let is : e.1 ≡ v = cc in
     ap (λ (f : Entry). (e.0, record f { group = to }) ∷ es) (sym is)
-    ∙ ap (λ b. (e.0, cond b (record e.1 { group = to }) e.1) ∷ es) (sym (ap (λ (f : Entry). same_name from f.group) is ∙ told))
+    ∙ ap (λ b. (e.0, cond b (record e.1 { group = to }) e.1) ∷ es) (sym (ap (λ (f : Entry). same_bytes from f.group) is ∙ told))
 regrouped_yes from to (e ∷ es) (suc k) v at told = ap (λ rest. regrouped_entry from to e ∷ rest) (regrouped_yes from to es k v at told)
 
-pub regrouped_no : (from to : List ℕ) (es : List (List ℕ × Entry)) (k : ℕ) (v : Entry) → slice_get (values_of (map (regrouped_entry from to) (take k es) ++ drop k es)) k ≡ Some v → same_name from v.group ≡ false →
+pub regrouped_no : (from to : List ℕ) (es : List (List ℕ × Entry)) (k : ℕ) (v : Entry) → slice_get (values_of (map (regrouped_entry from to) (take k es) ++ drop k es)) k ≡ Some v → same_bytes from v.group ≡ false →
     map (regrouped_entry from to) (take k es) ++ drop k es ≡ map (regrouped_entry from to) (take (suc k) es) ++ drop (suc k) es
 regrouped_no from to [] zero v at told = refl
 regrouped_no from to [] (suc k) v at told = refl
 regrouped_no from to (e ∷ es) zero v at told =
     let is : e.1 ≡ v = cc in
-    ap (λ b. (e.0, cond b (record e.1 { group = to }) e.1) ∷ es) (sym (ap (λ (f : Entry). same_name from f.group) is ∙ told))
+    ap (λ b. (e.0, cond b (record e.1 { group = to }) e.1) ∷ es) (sym (ap (λ (f : Entry). same_bytes from f.group) is ∙ told))
 regrouped_no from to (e ∷ es) (suc k) v at told = ap (λ rest. regrouped_entry from to e ∷ rest) (regrouped_no from to es k v at told)
 
 -- no place marked

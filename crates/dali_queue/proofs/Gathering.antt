@@ -5,7 +5,7 @@ use Rattle.std.proofs.lemmas.List.{length-map, map_push, append-nil}
 use Rattle.std.proofs.lemmas.List.Sums.{length-filter, count_by-le-length}
 use Rattle.std.proofs.lemmas.List.Elements.{filter-append}
 use Rattle.dali_base.specs.NameList.{NameList, knows, place_of, with_name}
-use Rattle.dali_account.specs.Book.{same_name}
+use Rattle.dali_base.specs.Readers.{same_bytes}
 use Rattle.dali_account.proofs.SumLemmas.{same_name_is, same_name_refl, same_name_symm}
 use Rattle.dali_queue.specs.declared.eligible.Eligible.{Eligible}
 use Rattle.dali_queue.specs.Queue.{Queued, QueueRecord}
@@ -66,14 +66,14 @@ module _ (may : Queued → Bool) (ws : List Queued) (w : Queued) (e f : Eligible
   none_yet n [] known new = tt
   none_yet n (v ∷ vs) known new = by (may v) refl known (λ all. none_yet n vs all new)
     where
-      apart : (b : Bool) → same_name w.group v.group ≡ b → knows n.names v.group ≡ true → b ≡ false
+      apart : (b : Bool) → same_bytes w.group v.group ≡ b → knows n.names v.group ≡ true → b ≡ false
       apart false e' there = refl
       apart true e' there = absurd (true≢false (sym there ∙ ap (knows n.names) (sym (same_name_is w.group v.group e')) ∙ new))
 
       by : (b : Bool) → may v ≡ b → AllByRecursion (λ x. knows n.names x ≡ true) (map group_of_queued (cond b (v ∷ filter may vs) (filter may vs))) →
           (AllByRecursion (λ x. knows n.names x ≡ true) (map group_of_queued (filter may vs)) → AllByRecursion (λ (u : Queued). settles_in may w.group u ≡ false) vs) →
           AllByRecursion (λ (u : Queued). settles_in may w.group u ≡ false) (v ∷ vs)
-      by true told all rest = (ap (λ b. b && in_group w.group v) told ∙ apart (same_name w.group v.group) refl all.0, rest all.1)
+      by true told all rest = (ap (λ b. b && in_group w.group v) told ∙ apart (same_bytes w.group v.group) refl all.0, rest all.1)
       by false told all rest = (ap (λ b. b && in_group w.group v) told, rest all)
 
   pub gathered_yes : may w ≡ true → f.groups ≡ with_name e.groups w.group → f.at ≡ e.at ++ length ws ∷ [] →
@@ -95,8 +95,8 @@ module _ (may : Queued → Bool) (ws : List Queued) (w : Queued) (e f : Eligible
       known : AllByRecursion (λ x. knows e.groups.names x ≡ true) (map group_of_queued (filter may ws))
       known = subst (λ (n : NameList). AllByRecursion (λ x. knows n.names x ≡ true) (map group_of_queued (filter may ws))) (sym g.groups) (listed_knows (map group_of_queued (filter may ws)))
 
-      distinct : IsDistinct same_name e.groups.names
-      distinct = subst (λ (n : NameList). IsDistinct same_name n.names) (sym g.groups) (listed_distinct (map group_of_queued (filter may ws)))
+      distinct : IsDistinct same_bytes e.groups.names
+      distinct = subst (λ (n : NameList). IsDistinct same_bytes n.names) (sym g.groups) (listed_distinct (map group_of_queued (filter may ws)))
 
       numbers : (vs : List Queued) → AllByRecursion (λ x. knows e.groups.names x ≡ true) (map group_of_queued vs) →
           map (λ (v : Queued). unwrap_or (place_of e.groups.names v.group) 0) vs ≡ map (λ (v : Queued). unwrap_or (place_of f.groups.names v.group) 0) vs
@@ -112,7 +112,7 @@ module _ (may : Queued → Bool) (ws : List Queued) (w : Queued) (e f : Eligible
           ∙ ap (λ b. places_from (settles_in may w.group) 0 ws ++ cond b ((0 + length ws) ∷ []) []) (same_name_refl w.group)
           ∙ ap (λ n. places_from (settles_in may w.group) 0 ws ++ n ∷ []) (omega arith)
 
-      else : (x : List ℕ) → same_name w.group x ≡ false → places_from (settles_in may x) 0 (ws ++ w ∷ []) ≡ places_from (settles_in may x) 0 ws
+      else : (x : List ℕ) → same_bytes w.group x ≡ false → places_from (settles_in may x) 0 (ws ++ w ∷ []) ≡ places_from (settles_in may x) 0 ws
       else x apart = places_push (settles_in may x) 0 ws w
           ∙ ap (λ b. places_from (settles_in may x) 0 ws ++ cond (b && in_group x w) ((0 + length ws) ∷ []) []) told
           ∙ ap (λ b. places_from (settles_in may x) 0 ws ++ cond b ((0 + length ws) ∷ []) []) (same_name_symm x w.group ∙ apart)

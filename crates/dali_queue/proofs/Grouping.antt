@@ -9,7 +9,7 @@ use Rattle.std.proofs.lemmas.List.Elements.{All-head, All-tail, All-push}
 use Rattle.std.proofs.lemmas.List.Quantifiers.{position-Some}
 use Rattle.std.proofs.lemmas.Map.Keys.{IsDistinct-push}
 use Rattle.dali_base.specs.NameList.{NameList, knows, with_name}
-use Rattle.dali_account.specs.Book.{same_name}
+use Rattle.dali_base.specs.Readers.{same_bytes}
 use Rattle.dali_account.proofs.SumLemmas.{same_name_is}
 use Rattle.dali_problem.specs.Sums.{pick, sum_over}
 use Rattle.dali_problem.proofs.SumLaws.{sum_over_add}
@@ -23,11 +23,11 @@ use Rattle.dali_queue.specs.Queue.{Queued}
 
 -- names, each once: they differ, what holds of all names holds of them, and each name is among them
 module _ where
-  once_distinct : (n : NameList) (names : List (List ℕ)) → IsDistinct same_name n.names → IsDistinct same_name (fold with_name n names).names
+  once_distinct : (n : NameList) (names : List (List ℕ)) → IsDistinct same_bytes n.names → IsDistinct same_bytes (fold with_name n names).names
   once_distinct n [] d = d
   once_distinct n (x ∷ xs) d = once_distinct (with_name n x) xs (by (knows n.names x) refl)
     where
-      by : (b : Bool) → knows n.names x ≡ b → IsDistinct same_name (cond b n (record { names = n.names ++ x ∷ []; readied = None })).names
+      by : (b : Bool) → knows n.names x ≡ b → IsDistinct same_bytes (cond b n (record { names = n.names ++ x ∷ []; readied = None })).names
       by true e = d
       by false e = IsDistinct-push nat_list_eq_equiv n.names x d e
 
@@ -41,15 +41,15 @@ module _ where
 
   knows_push : (names : List (List ℕ)) (x g : List ℕ) → knows names g ≡ true → knows (names ++ x ∷ []) g ≡ true
   knows_push [] x g h = absurd (true≢false (sym h))
-  knows_push (y ∷ ys) x g h = by (same_name g y) h (knows_push ys x g)
+  knows_push (y ∷ ys) x g h = by (same_bytes g y) h (knows_push ys x g)
     where
       by : (b : Bool) → (b || knows ys g) ≡ true → (knows ys g ≡ true → knows (ys ++ x ∷ []) g ≡ true) → (b || knows (ys ++ x ∷ []) g) ≡ true
       by true h rest = refl
       by false h rest = rest h
 
-  knows_last : (names : List (List ℕ)) (x g : List ℕ) → same_name g x ≡ true → knows (names ++ x ∷ []) g ≡ true
+  knows_last : (names : List (List ℕ)) (x g : List ℕ) → same_bytes g x ≡ true → knows (names ++ x ∷ []) g ≡ true
   knows_last [] x g h = ap (λ b. b || false) h
-  knows_last (y ∷ ys) x g h = by (same_name g y) (knows_last ys x g h)
+  knows_last (y ∷ ys) x g h = by (same_bytes g y) (knows_last ys x g h)
     where
       by : (b : Bool) → knows (ys ++ x ∷ []) g ≡ true → (b || knows (ys ++ x ∷ []) g) ≡ true
       by true rest = refl
@@ -62,7 +62,7 @@ module _ where
       by true = h
       by false = knows_push n.names x g h
 
-  enters : (n : NameList) (x g : List ℕ) → same_name g x ≡ true → knows (with_name n x).names g ≡ true
+  enters : (n : NameList) (x g : List ℕ) → same_bytes g x ≡ true → knows (with_name n x).names g ≡ true
   enters n x g h = by (knows n.names x) refl
     where
       by : (b : Bool) → knows n.names x ≡ b → knows (cond b n (record { names = n.names ++ x ∷ []; readied = None })).names g ≡ true
@@ -75,17 +75,17 @@ module _ where
 
   once_knows : (n : NameList) (names : List (List ℕ)) (g : List ℕ) → knows names g ≡ true → knows (fold with_name n names).names g ≡ true
   once_knows n [] g h = absurd (true≢false (sym h))
-  once_knows n (x ∷ xs) g h = by (same_name g x) refl h (once_knows (with_name n x) xs g)
+  once_knows n (x ∷ xs) g h = by (same_bytes g x) refl h (once_knows (with_name n x) xs g)
     where
-      by : (b : Bool) → same_name g x ≡ b → (b || knows xs g) ≡ true → (knows xs g ≡ true → knows (fold with_name (with_name n x) xs).names g ≡ true) → knows (fold with_name (with_name n x) xs).names g ≡ true
+      by : (b : Bool) → same_bytes g x ≡ b → (b || knows xs g) ≡ true → (knows xs g ≡ true → knows (fold with_name (with_name n x) xs).names g ≡ true) → knows (fold with_name (with_name n x) xs).names g ≡ true
       by true e h rest = kept_through (with_name n x) xs g (enters n x g e)
       by false e h rest = rest h
 
-none_distinct : IsDistinct same_name []
+none_distinct : IsDistinct same_bytes []
 unfolding IsDistinct
 none_distinct = tt
 
-pub each_distinct : (names : List (List ℕ)) → IsDistinct same_name (each_once names)
+pub each_distinct : (names : List (List ℕ)) → IsDistinct same_bytes (each_once names)
 each_distinct names = once_distinct (record { names = []; readied = None }) names none_distinct
 
 pub each_all : (P : List ℕ → Type 0) (names : List (List ℕ)) → All P names → All P (each_once names)

@@ -17,13 +17,14 @@ use Rattle.std.proofs.lemmas.List.Kept.{AllPairs-cons}
 use Rattle.std.proofs.lemmas.Map.Keys.{IsDistinct-from_sorted, apart_from_distinct, sorted_from_all_adjacent, sorted_head, sorted_tail}
 use Rattle.std.proofs.lemmas.Map.Made.{length-le_from_is_member}
 use Rattle.dali_account.specs.declared.net.Move.{Move}
-use Rattle.dali_account.specs.Book.{same_name, cash}
+use Rattle.dali_account.specs.Book.{cash}
 use Rattle.dali_account.specs.Net.{pair_of}
 use Rattle.dali_account.specs.Units.{PairKey, pair_cmp}
 use Rattle.dali_account.proofs.SumLemmas.{same_name_is, same_name_symm, and_false}
 use Rattle.dali_account.proofs.UnitsLemmas.{same_pair, pair_total, pair_antisymmetric, pair_ties}
 use Rattle.dali_base.specs.declared.kind.Kind.{Kind}
 use Rattle.dali_base.specs.declared.kind.Kind.TheVariants.{Dvp, Fop, Pay}
+use Rattle.dali_base.specs.Readers.{same_bytes}
 use Rattle.dali_problem.specs.declared.row.Effect.{Effect}
 use Rattle.dali_problem.specs.Limits.{Within, AreEffects}
 use Rattle.dali_problem.specs.Sums.{pick}
@@ -190,16 +191,16 @@ line_less (x ∷ xs) p q sorted one two less = by (tied p x) (tied q x) refl ref
         omega (arith, first, second, lower)
 
 -- what an instruction changes a pair by is at most 10^15 in size: its code and cash are two assets
-moved_elsewhere : (n : ℕ) (asset giver taker : List ℕ) (pair : PairKey) → same_name asset pair.1 ≡ false → moved n asset giver taker pair ≡ pos 0
+moved_elsewhere : (n : ℕ) (asset giver taker : List ℕ) (pair : PairKey) → same_bytes asset pair.1 ≡ false → moved n asset giver taker pair ≡ pos 0
 unfolding moved
 moved_elsewhere n asset giver taker pair apart =
-    let one : at_pair taker asset (pos n) pair ≡ pos 0 = ap (λ b. pick b (pos n)) (and_false (same_name taker pair.0) (same_name asset pair.1) apart) in
-    let two : at_pair giver asset (pos n) pair ≡ pos 0 = ap (λ b. pick b (pos n)) (and_false (same_name giver pair.0) (same_name asset pair.1) apart) in
+    let one : at_pair taker asset (pos n) pair ≡ pos 0 = ap (λ b. pick b (pos n)) (and_false (same_bytes taker pair.0) (same_bytes asset pair.1) apart) in
+    let two : at_pair giver asset (pos n) pair ≡ pos 0 = ap (λ b. pick b (pos n)) (and_false (same_bytes giver pair.0) (same_bytes asset pair.1) apart) in
     omega (arith, ints, one, two)
 
 pub effect_small : (i : Instruction) (pair : PairKey) → IsInstruction i → Within 1000000000000000 (effect i pair)
 unfolding effect
-effect_small i pair kept = by (same_name i.code pair.1) refl
+effect_small i pair kept = by (same_bytes i.code pair.1) refl
   where
     one : Within 1000000000000000 (moved i.quantity i.code i.giver i.taker pair)
     one = moved_within i.quantity i.code i.giver i.taker pair kept.quantity.to_most
@@ -207,12 +208,12 @@ effect_small i pair kept = by (same_name i.code pair.1) refl
     two : Within 1000000000000000 (moved i.cash cash i.taker i.giver pair)
     two = moved_within i.cash cash i.taker i.giver pair (cash_fits i.kind i.cash kept.cash)
 
-    none : (k : Kind) → IsCash k i.cash → same_name i.code cash ≡ is_payment k → same_name i.code pair.1 ≡ true → moved i.cash cash i.taker i.giver pair ≡ pos 0
-    none Dvp is code e = moved_elsewhere i.cash cash i.taker i.giver pair (same_name_symm cash pair.1 ∙ ap (λ a. same_name a cash) (sym (same_name_is i.code pair.1 e)) ∙ code)
+    none : (k : Kind) → IsCash k i.cash → same_bytes i.code cash ≡ is_payment k → same_bytes i.code pair.1 ≡ true → moved i.cash cash i.taker i.giver pair ≡ pos 0
+    none Dvp is code e = moved_elsewhere i.cash cash i.taker i.giver pair (same_name_symm cash pair.1 ∙ ap (λ a. same_bytes a cash) (sym (same_name_is i.code pair.1 e)) ∙ code)
     none Fop is code e = ap (λ n. moved n cash i.taker i.giver pair) is ∙ moved_none cash i.taker i.giver pair
     none Pay is code e = ap (λ n. moved n cash i.taker i.giver pair) is ∙ moved_none cash i.taker i.giver pair
 
-    by : (b : Bool) → same_name i.code pair.1 ≡ b → Within 1000000000000000 (moved i.quantity i.code i.giver i.taker pair +ℤ moved i.cash cash i.taker i.giver pair)
+    by : (b : Bool) → same_bytes i.code pair.1 ≡ b → Within 1000000000000000 (moved i.quantity i.code i.giver i.taker pair +ℤ moved i.cash cash i.taker i.giver pair)
     by true e =
         let zero_cash = none i.kind kept.cash kept.code e in
         record { low = omega (arith, ints, one.low, zero_cash); high = omega (arith, ints, one.high, zero_cash) }

@@ -12,7 +12,7 @@ use Rattle.std.proofs.lemmas.List.Sums.{fold_push}
 use Rattle.std.proofs.lemmas.List.Folds.{list_any-append}
 use Rattle.std.proofs.lemmas.Map.Keys.{IsDistinct-push, IsDistinct-head, IsDistinct-tail}
 use Rattle.dali_base.specs.NameList.{NameList, knows, place_of, with_name}
-use Rattle.dali_account.specs.Book.{same_name}
+use Rattle.dali_base.specs.Readers.{same_bytes}
 use Rattle.dali_account.proofs.SumLemmas.{same_name_is, same_name_refl, first_false, second_false}
 use Rattle.dali_queue.specs.Eligible.{with_place}
 
@@ -41,12 +41,12 @@ module _ (n : NameList) (name : List ℕ) where
       by true e = let same = ap length (with_known e) in omega (arith, same)
       by false e = let same = ap length (with_new e) in omega (arith, same, length_push n.names name)
 
-  pub with_distinct : IsDistinct same_name n.names → IsDistinct same_name (with_name n name).names
+  pub with_distinct : IsDistinct same_bytes n.names → IsDistinct same_bytes (with_name n name).names
   with_distinct distinct = by (knows n.names name) refl
     where
-      by : (b : Bool) → knows n.names name ≡ b → IsDistinct same_name (with_name n name).names
-      by true e = subst (IsDistinct same_name) (sym (with_known e)) distinct
-      by false e = subst (IsDistinct same_name) (sym (with_new e)) (IsDistinct-push nat_list_eq_equiv n.names name distinct e)
+      by : (b : Bool) → knows n.names name ≡ b → IsDistinct same_bytes (with_name n name).names
+      by true e = subst (IsDistinct same_bytes) (sym (with_known e)) distinct
+      by false e = subst (IsDistinct same_bytes) (sym (with_new e)) (IsDistinct-push nat_list_eq_equiv n.names name distinct e)
 
   pub with_all : (P : List ℕ → Type 0) → AllByRecursion P n.names → P name → AllByRecursion P (with_name n name).names
   with_all P all there = by (knows n.names name) refl
@@ -59,7 +59,7 @@ module _ (n : NameList) (name : List ℕ) where
       by true e = subst (AllByRecursion P) (sym (with_known e)) all
       by false e = subst (AllByRecursion P) (sym (with_new e)) (pushed n.names all)
 
-distinct_none : IsDistinct same_name []
+distinct_none : IsDistinct same_bytes []
 unfolding IsDistinct
 distinct_none = tt
 
@@ -68,8 +68,8 @@ along : (P : NameList → Type 0) → ((n : NameList) (name : List ℕ) → P n 
 along P step n [] h = h
 along P step n (x ∷ xs) h = along P step (with_name n x) xs (step n x h)
 
-pub listed_distinct : (names : List (List ℕ)) → IsDistinct same_name (listed names).names
-listed_distinct names = along (λ n. IsDistinct same_name n.names) (λ n name h. with_distinct n name h) no_names names distinct_none
+pub listed_distinct : (names : List (List ℕ)) → IsDistinct same_bytes (listed names).names
+listed_distinct names = along (λ n. IsDistinct same_bytes n.names) (λ n name h. with_distinct n name h) no_names names distinct_none
 
 pub listed_length : (names : List (List ℕ)) → length (listed names).names ≤ length names
 listed_length names = let most = from no_names names in omega (arith, most)
@@ -116,14 +116,14 @@ next (Some k) e = refl
 pub there : (xs : List (List ℕ)) (name : List ℕ) → knows xs name ≡ true → is_some (place_of xs name) ≡ true
 there xs name known = known_place xs name ∙ known
 
-later : (x name : List ℕ) (xs : List (List ℕ)) → same_name name x ≡ false → knows (x ∷ xs) name ≡ true → knows xs name ≡ true
+later : (x name : List ℕ) (xs : List (List ℕ)) → same_bytes name x ≡ false → knows (x ∷ xs) name ≡ true → knows xs name ≡ true
 later x name xs apart known = sym (ap (λ b. b || knows xs name) apart) ∙ known
 
 knows_push : (xs : List (List ℕ)) (name x : List ℕ) → knows xs x ≡ true → knows (xs ++ name ∷ []) x ≡ true
-knows_push xs name x known = list_any-append (same_name x) xs (name ∷ []) ∙ ap (λ b. b || (same_name x name || false)) known
+knows_push xs name x known = list_any-append (same_bytes x) xs (name ∷ []) ∙ ap (λ b. b || (same_bytes x name || false)) known
 
 knows_last : (xs : List (List ℕ)) (name : List ℕ) → knows (xs ++ name ∷ []) name ≡ true
-knows_last xs name = list_any-append (same_name name) xs (name ∷ []) ∙ ap (λ b. knows xs name || (b || false)) (same_name_refl name) ∙ or_true (knows xs name)
+knows_last xs name = list_any-append (same_bytes name) xs (name ∷ []) ∙ ap (λ b. knows xs name || (b || false)) (same_name_refl name) ∙ or_true (knows xs name)
   where
     or_true : (b : Bool) → (b || true) ≡ true
     or_true true = refl
@@ -132,11 +132,11 @@ knows_last xs name = list_any-append (same_name name) xs (name ∷ []) ∙ ap (�
 -- its place stays when a name is added
 pub place_kept : (xs : List (List ℕ)) (name x : List ℕ) → knows xs x ≡ true → place_of (xs ++ name ∷ []) x ≡ place_of xs x
 place_kept [] name x known = absurd (true≢false (sym known))
-place_kept (y ∷ ys) name x known = by (same_name x y) refl (place_kept ys name x)
+place_kept (y ∷ ys) name x known = by (same_bytes x y) refl (place_kept ys name x)
   where
-    by : (b : Bool) → same_name x y ≡ b → (knows ys x ≡ true → place_of (ys ++ name ∷ []) x ≡ place_of ys x) → place_of (y ∷ (ys ++ name ∷ [])) x ≡ place_of (y ∷ ys) x
-    by true e rest = position_yes (same_name x) y (ys ++ name ∷ []) e ∙ sym (position_yes (same_name x) y ys e)
-    by false e rest = position_no (same_name x) y (ys ++ name ∷ []) e ∙ ap (option_map (λ k. suc k)) (rest (later y x ys e known)) ∙ sym (position_no (same_name x) y ys e)
+    by : (b : Bool) → same_bytes x y ≡ b → (knows ys x ≡ true → place_of (ys ++ name ∷ []) x ≡ place_of ys x) → place_of (y ∷ (ys ++ name ∷ [])) x ≡ place_of (y ∷ ys) x
+    by true e rest = position_yes (same_bytes x) y (ys ++ name ∷ []) e ∙ sym (position_yes (same_bytes x) y ys e)
+    by false e rest = position_no (same_bytes x) y (ys ++ name ∷ []) e ∙ ap (option_map (λ k. suc k)) (rest (later y x ys e known)) ∙ sym (position_no (same_bytes x) y ys e)
 
 module _ (n : NameList) (name : List ℕ) where
   pub with_place_kept : (x : List ℕ) → knows n.names x ≡ true → place_of (with_name n name).names x ≡ place_of n.names x
@@ -172,43 +172,43 @@ listed_knows names = from no_names names
     from n (x ∷ xs) = (knows_on xs (with_name n x) x (with_itself n x), from (with_name n x) xs)
 
 -- one more place in the list of a name
-module _ (h after : List ℕ → List ℕ) (name : List ℕ) (place : ℕ) (own : after name ≡ h name ++ place ∷ []) (else : (x : List ℕ) → same_name name x ≡ false → after x ≡ h x) where
-  same_after : (xs : List (List ℕ)) → AllByRecursion (λ x. same_name name x ≡ false) xs → map h xs ≡ map after xs
+module _ (h after : List ℕ → List ℕ) (name : List ℕ) (place : ℕ) (own : after name ≡ h name ++ place ∷ []) (else : (x : List ℕ) → same_bytes name x ≡ false → after x ≡ h x) where
+  same_after : (xs : List (List ℕ)) → AllByRecursion (λ x. same_bytes name x ≡ false) xs → map h xs ≡ map after xs
   same_after [] apart = refl
   same_after (x ∷ xs) apart = ap (λ ps. ps ∷ map h xs) (sym (else x apart.0)) ∙ ap (λ pss. after x ∷ pss) (same_after xs apart.1)
 
-  placed_known : (xs : List (List ℕ)) → IsDistinct same_name xs → knows xs name ≡ true → with_place (map h xs) (unwrap_or (place_of xs name) 0) place ≡ map after xs
+  placed_known : (xs : List (List ℕ)) → IsDistinct same_bytes xs → knows xs name ≡ true → with_place (map h xs) (unwrap_or (place_of xs name) 0) place ≡ map after xs
   placed_known [] distinct known = absurd (true≢false (sym known))
-  placed_known (x ∷ xs) distinct known = by (same_name name x) refl (placed_known xs (IsDistinct-tail same_name x xs distinct))
+  placed_known (x ∷ xs) distinct known = by (same_bytes name x) refl (placed_known xs (IsDistinct-tail same_bytes x xs distinct))
     where
-      by : (b : Bool) → same_name name x ≡ b → (knows xs name ≡ true → with_place (map h xs) (unwrap_or (place_of xs name) 0) place ≡ map after xs) →
+      by : (b : Bool) → same_bytes name x ≡ b → (knows xs name ≡ true → with_place (map h xs) (unwrap_or (place_of xs name) 0) place ≡ map after xs) →
           with_place (h x ∷ map h xs) (unwrap_or (place_of (x ∷ xs) name) 0) place ≡ after x ∷ map after xs
       by true e rest =
           let is : name ≡ x = same_name_is name x e in
-          let apart : AllByRecursion (λ y. same_name name y ≡ false) xs = subst (λ n. AllByRecursion (λ y. same_name n y ≡ false) xs) (sym is) (IsDistinct-head same_name x xs distinct) in
-          ap (λ o. with_place (h x ∷ map h xs) (unwrap_or o 0) place) (position_yes (same_name name) x xs e)
+          let apart : AllByRecursion (λ y. same_bytes name y ≡ false) xs = subst (λ n. AllByRecursion (λ y. same_bytes n y ≡ false) xs) (sym is) (IsDistinct-head same_bytes x xs distinct) in
+          ap (λ o. with_place (h x ∷ map h xs) (unwrap_or o 0) place) (position_yes (same_bytes name) x xs e)
           ∙ ap (λ y. (h y ++ place ∷ []) ∷ map h xs) (sym is) ∙ ap (λ ps. ps ∷ map h xs) (sym own) ∙ ap (λ y. after y ∷ map h xs) is
           ∙ ap (λ pss. after x ∷ pss) (same_after xs apart)
       by false e rest =
           let known' : knows xs name ≡ true = later x name xs e known in
-          ap (λ o. with_place (h x ∷ map h xs) (unwrap_or o 0) place) (position_no (same_name name) x xs e)
+          ap (λ o. with_place (h x ∷ map h xs) (unwrap_or o 0) place) (position_no (same_bytes name) x xs e)
           ∙ ap (λ k. with_place (h x ∷ map h xs) k place) (next (place_of xs name) (there xs name known'))
           ∙ ap (λ ps. ps ∷ with_place (map h xs) (unwrap_or (place_of xs name) 0) place) (sym (else x e))
           ∙ ap (λ pss. after x ∷ pss) (rest known')
 
   placed_new : h name ≡ [] → (xs : List (List ℕ)) → knows xs name ≡ false → with_place (map h xs) (unwrap_or (place_of (xs ++ name ∷ []) name) 0) place ≡ map after (xs ++ name ∷ [])
   placed_new none [] new =
-      ap (λ o. with_place [] (unwrap_or o 0) place) (position_yes (same_name name) name [] (same_name_refl name))
+      ap (λ o. with_place [] (unwrap_or o 0) place) (position_yes (same_bytes name) name [] (same_name_refl name))
       ∙ ap (λ ps. (ps ++ place ∷ []) ∷ []) (sym none) ∙ ap (λ ps. ps ∷ []) (sym own)
   placed_new none (x ∷ xs) new =
-      let apart : same_name name x ≡ false = first_false (same_name name x) (knows xs name) new in
-      let rest : knows xs name ≡ false = second_false (same_name name x) (knows xs name) new in
-      ap (λ o. with_place (h x ∷ map h xs) (unwrap_or o 0) place) (position_no (same_name name) x (xs ++ name ∷ []) apart)
+      let apart : same_bytes name x ≡ false = first_false (same_bytes name x) (knows xs name) new in
+      let rest : knows xs name ≡ false = second_false (same_bytes name x) (knows xs name) new in
+      ap (λ o. with_place (h x ∷ map h xs) (unwrap_or o 0) place) (position_no (same_bytes name) x (xs ++ name ∷ []) apart)
       ∙ ap (λ k. with_place (h x ∷ map h xs) k place) (next (place_of (xs ++ name ∷ []) name) (there (xs ++ name ∷ []) name (knows_last xs name)))
       ∙ ap (λ ps. ps ∷ with_place (map h xs) (unwrap_or (place_of (xs ++ name ∷ []) name) 0) place) (sym (else x apart))
       ∙ ap (λ pss. after x ∷ pss) (placed_new none xs rest)
 
-  pub placed : (n : NameList) → IsDistinct same_name n.names → (knows n.names name ≡ false → h name ≡ []) →
+  pub placed : (n : NameList) → IsDistinct same_bytes n.names → (knows n.names name ≡ false → h name ≡ []) →
       with_place (map h n.names) (unwrap_or (place_of (with_name n name).names name) 0) place ≡ map after (with_name n name).names
   placed n distinct none = by (knows n.names name) refl
     where
@@ -218,4 +218,4 @@ module _ (h after : List ℕ → List ℕ) (name : List ℕ) (place : ℕ) (own 
 
 -- the place of a name that was added is within the lists, or the next
 pub place_within : (names : List (List ℕ)) (name : List ℕ) (k : ℕ) → place_of names name ≡ Some k → k < length names
-place_within names name k is = (position-Some (same_name name) names k [] is).0
+place_within names name k is = (position-Some (same_bytes name) names k [] is).0

@@ -8,8 +8,9 @@ use Rattle.std.specs.Ordering.{is_eq, int_eq}
 use Rattle.std.proofs.lemmas.Int.{ints}
 use Rattle.std.proofs.lemmas.List.Elements.{All-nil, All-cons}
 use Rattle.std.proofs.lemmas.List.Folds.{list_any-append}
+use Rattle.dali_base.specs.Readers.{same_bytes}
 use Rattle.dali_account.specs.declared.net.Move.{Move}
-use Rattle.dali_account.specs.Book.{same_name, cash}
+use Rattle.dali_account.specs.Book.{cash}
 use Rattle.dali_account.specs.Net.{IsNet}
 use Rattle.dali_account.specs.Units.{PairKey, pair_cmp}
 use Rattle.dali_account.proofs.SumLemmas.{same_name_symm, first_false, second_false}
@@ -69,7 +70,7 @@ net_at f ps outside =
 
 -- what an instruction changes
 at_none : (p q : PairKey) (z : ℤ) → tied q p ≡ false → at_pair p.0 p.1 z q ≡ pos 0
-at_none p q z apart = ap (λ b. pick b z) (ap (λ t. t && same_name p.1 q.1) (same_name_symm p.0 q.0) ∙ ap (λ t. same_name q.0 p.0 && t) (same_name_symm p.1 q.1) ∙ pair_ties q p ∙ apart)
+at_none p q z apart = ap (λ b. pick b z) (ap (λ t. t && same_bytes p.1 q.1) (same_name_symm p.0 q.0) ∙ ap (λ t. same_bytes q.0 p.0 && t) (same_name_symm p.1 q.1) ∙ pair_ties q p ∙ apart)
 
 pub effect_outside : (i : Instruction) (q : PairKey) → list_any (tied q) (changed_pairs i) ≡ false → effect i q ≡ pos 0
 unfolding effect moved

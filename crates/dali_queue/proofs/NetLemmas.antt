@@ -13,7 +13,7 @@ use Rattle.std.proofs.lemmas.List.{append-nil, length-take-le}
 use Rattle.std.proofs.lemmas.Bool.Decides.{Decides-int_eq}
 use Rattle.std.proofs.lemmas.List.Elements.{All-nil, All-cons, All-tail, recursion_from_All}
 use Rattle.dali_account.specs.declared.net.Move.{Move}
-use Rattle.dali_account.specs.Book.{same_name, cash}
+use Rattle.dali_account.specs.Book.{cash}
 use Rattle.dali_account.specs.Units.{PairKey, pair_cmp}
 use Rattle.dali_account.specs.Net.{IsNet, IsAfter, pair_of}
 use Rattle.dali_account.proofs.SumLemmas.{same_name_refl}
@@ -22,6 +22,7 @@ use Rattle.dali_problem.specs.Limits.{Within}
 use Rattle.dali_problem.specs.Sums.{pick}
 use Rattle.dali_base.specs.declared.kind.Kind.{Kind}
 use Rattle.dali_base.specs.declared.kind.Kind.TheVariants.{Dvp, Fop, Pay}
+use Rattle.dali_base.specs.Readers.{same_bytes}
 use Rattle.dali_queue.specs.declared.instruction.Instruction.{Instruction}
 use Rattle.dali_queue.specs.Instruction.{IsInstruction, IsCash, at_pair, moved, effect}
 use Rattle.dali_problem.proofs.SumLaws.{sum_over_within}
@@ -53,7 +54,7 @@ module _ (m n : BTreeMap PairKey ℤ) (key : PairKey) (delta z : ℤ) (is : z �
       by false told = omega (arith, ints)
 
 pub at_negative : (account asset : List ℕ) (z : ℤ) (pair : PairKey) → at_pair account asset (neg_ℤ z) pair ≡ neg_ℤ (at_pair account asset z pair)
-at_negative account asset z pair = by (same_name account pair.0 && same_name asset pair.1)
+at_negative account asset z pair = by (same_bytes account pair.0 && same_bytes asset pair.1)
   where
     by : (b : Bool) → pick b (neg_ℤ z) ≡ neg_ℤ (pick b z)
     by true = refl
@@ -68,7 +69,7 @@ moved_from units asset giver taker pair before middle after one two =
 pub moved_none : (asset giver taker : List ℕ) (pair : PairKey) → moved 0 asset giver taker pair ≡ pos 0
 unfolding moved
 moved_none asset giver taker pair =
-    let zero_at : (account : List ℕ) → at_pair account asset (pos 0) pair ≡ pos 0 = λ account. by (same_name account pair.0 && same_name asset pair.1) in
+    let zero_at : (account : List ℕ) → at_pair account asset (pos 0) pair ≡ pos 0 = λ account. by (same_bytes account pair.0 && same_bytes asset pair.1) in
     let one = zero_at giver in
     let two = zero_at taker in
     omega (arith, ints, one, two)
@@ -79,7 +80,7 @@ moved_none asset giver taker pair =
 
 pub moved_within : (units : ℕ) (asset giver taker : List ℕ) (pair : PairKey) → units ≤ 1000000000000000 → Within 1000000000000000 (moved units asset giver taker pair)
 unfolding moved
-moved_within units asset giver taker pair few = both (same_name giver pair.0 && same_name asset pair.1) (same_name taker pair.0 && same_name asset pair.1)
+moved_within units asset giver taker pair few = both (same_bytes giver pair.0 && same_bytes asset pair.1) (same_bytes taker pair.0 && same_bytes asset pair.1)
   where
     both : (a b : Bool) → Within 1000000000000000 (pick b (pos units) -ℤ pick a (pos units))
     both true true = record { low = omega (arith, ints, few); high = omega (arith, ints, few) }
@@ -198,7 +199,7 @@ none_behind p (m ∷ ms) all =
     omega (arith, ints, rest, head)
 
 own_delta : (m : Move) → at_pair m.account m.asset m.delta (pair_of m) ≡ m.delta
-own_delta m = ap (λ b. pick b m.delta) (ap (λ t. t && same_name m.asset m.asset) (same_name_refl m.account) ∙ same_name_refl m.asset)
+own_delta m = ap (λ b. pick b m.delta) (ap (λ t. t && same_bytes m.asset m.asset) (same_name_refl m.account) ∙ same_name_refl m.asset)
 
 all_behind : (p q : PairKey) (qs : List PairKey) → pair_cmp p q ≡ Less → AllByRecursion (λ y. pair_cmp q y ≡ Less) qs → AllByRecursion (λ y. pair_cmp p y ≡ Less) qs
 all_behind p q [] before all = tt

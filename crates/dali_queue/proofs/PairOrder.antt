@@ -6,7 +6,7 @@ use Rattle.std.specs.List.Sorted.{IsStrictlySortedBy}
 use Rattle.std.specs.Ordering.{is_lt, eq_by_cmp}
 use Rattle.std.specs.declared.cmp.Ordering.{Ordering}
 use Rattle.std.specs.declared.cmp.Ordering.TheVariants.{Less, Equal, Greater}
-use Rattle.dali_account.specs.Book.{same_name}
+use Rattle.dali_base.specs.Readers.{same_bytes}
 use Rattle.dali_account.specs.Units.{PairKey, pair_cmp}
 use Rattle.dali_account.proofs.SumLemmas.{same_name_refl, first_true, second_from_first, first_false, second_false}
 use Rattle.dali_account.proofs.UnitsLemmas.{pair_total, pair_ties, same_pair_is}
@@ -17,7 +17,7 @@ abbrev pub tied : PairKey → PairKey → Bool
 tied p q = eq_by_cmp pair_cmp p q
 
 pub tied_itself : (p : PairKey) → tied p p ≡ true
-tied_itself p = sym (pair_ties p p) ∙ ap (λ t. t && same_name p.1 p.1) (same_name_refl p.0) ∙ same_name_refl p.1
+tied_itself p = sym (pair_ties p p) ∙ ap (λ t. t && same_bytes p.1 p.1) (same_name_refl p.0) ∙ same_name_refl p.1
 
 pub tied_is : (p q : PairKey) → tied p q ≡ true → p ≡ q
 tied_is p q told = same_pair_is p q (pair_ties p q ∙ told)

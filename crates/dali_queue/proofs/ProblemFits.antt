@@ -9,8 +9,9 @@ use Rattle.std.proofs.lemmas.List.Folds.{list_any-append}
 use Rattle.std.proofs.lemmas.List.Kept.{AllPairs-cons}
 use Rattle.std.proofs.lemmas.List.Sums.{sum_by-cons, sum_by-le-sum_by, length-filter, count_by-le-length}
 use Rattle.std.proofs.lemmas.Map.Keys.{IsDistinct-head, IsDistinct-tail}
+use Rattle.dali_base.specs.Readers.{same_bytes}
 use Rattle.dali_account.specs.declared.net.Move.{Move}
-use Rattle.dali_account.specs.Book.{BookRecord, same_name}
+use Rattle.dali_account.specs.Book.{BookRecord}
 use Rattle.dali_account.specs.Net.{pair_of}
 use Rattle.dali_account.specs.Units.{PairKey}
 use Rattle.dali_account.proofs.SumLemmas.{same_name_refl}
@@ -108,8 +109,8 @@ both_all P Q R h [] p q = tt
 both_all P Q R h (x ∷ xs) p q = (h x p.0 q.0, both_all P Q R h xs p.1 q.1)
 
 -- some groups of a queue, each once and none without instructions
-module _ (ws : List Queued) (gs : List (List ℕ)) (distinct : IsDistinct same_name gs) (some : AllByRecursion (λ g. list_any (in_group g) ws ≡ true) gs) (few_groups : length gs ≤ 1024)
-    (few : length ws ≤ 1024) (all : AllByRecursion (λ (w : Queued). IsInstruction w.item) ws) (ids : IsDistinct same_name (map id_of ws)) (linked : (g : List ℕ) → length (members_of ws g) ≤ 8) where
+module _ (ws : List Queued) (gs : List (List ℕ)) (distinct : IsDistinct same_bytes gs) (some : AllByRecursion (λ g. list_any (in_group g) ws ≡ true) gs) (few_groups : length gs ≤ 1024)
+    (few : length ws ≤ 1024) (all : AllByRecursion (λ (w : Queued). IsInstruction w.item) ws) (ids : IsDistinct same_bytes (map id_of ws)) (linked : (g : List ℕ) → length (members_of ws g) ≤ 8) where
   abbrev pub mss : List (List Instruction)
   mss = map (members_of ws) gs
 
@@ -134,21 +135,21 @@ module _ (ws : List Queued) (gs : List (List ℕ)) (distinct : IsDistinct same_n
       item_fits gs some (unmapped (λ items. AllByRecursion (HasLine pairs) (net_of items)) (members_of ws) gs (unmapped (AllByRecursion (HasLine pairs)) net_of mss (have_lines (map net_of mss))))
 
   -- two groups have two ids
-  ids_apart : (g h : List ℕ) → list_any (in_group g) ws ≡ true → list_any (in_group h) ws ≡ true → same_name g h ≡ false → first_id (members_of ws g) ≢ first_id (members_of ws h)
+  ids_apart : (g h : List ℕ) → list_any (in_group g) ws ≡ true → list_any (in_group h) ws ≡ true → same_bytes g h ≡ false → first_id (members_of ws g) ≢ first_id (members_of ws h)
   ids_apart g h one two apart same =
       let is : Some g ≡ Some h = sym (first_group ws g ids one) ∙ ap (group_of ws) same ∙ first_group ws h ids two in
       let names : g ≡ h = cc in
-      true≢false (sym (ap (same_name g) (sym names) ∙ same_name_refl g) ∙ apart)
+      true≢false (sym (ap (same_bytes g) (sym names) ∙ same_name_refl g) ∙ apart)
 
-  ids_differ : (qs : List PairKey) (hs : List (List ℕ)) → IsDistinct same_name hs → AllByRecursion (λ g. list_any (in_group g) ws ≡ true) hs →
+  ids_differ : (qs : List PairKey) (hs : List (List ℕ)) → IsDistinct same_bytes hs → AllByRecursion (λ g. list_any (in_group g) ws ≡ true) hs →
       AllPairs (λ (a b : Item). a.id ≢ b.id) (map (item_of_members qs) (map (members_of ws) hs))
   ids_differ qs [] apart there = λ i j d less within. absurd (omega (arith, within))
   ids_differ qs (h ∷ hs) apart there =
       AllPairs-cons (λ (a b : Item). a.id ≢ b.id) (item_of_members qs (members_of ws h)) (map (item_of_members qs) (map (members_of ws) hs))
-      (All-from_recursion (λ (b : Item). first_id (members_of ws h) ≢ b.id) (map (item_of_members qs) (map (members_of ws) hs)) (others hs (IsDistinct-head same_name h hs apart) there.1))
-      (ids_differ qs hs (IsDistinct-tail same_name h hs apart) there.1)
+      (All-from_recursion (λ (b : Item). first_id (members_of ws h) ≢ b.id) (map (item_of_members qs) (map (members_of ws) hs)) (others hs (IsDistinct-head same_bytes h hs apart) there.1))
+      (ids_differ qs hs (IsDistinct-tail same_bytes h hs apart) there.1)
     where
-      others : (ks : List (List ℕ)) → AllByRecursion (λ k. same_name h k ≡ false) ks → AllByRecursion (λ g. list_any (in_group g) ws ≡ true) ks →
+      others : (ks : List (List ℕ)) → AllByRecursion (λ k. same_bytes h k ≡ false) ks → AllByRecursion (λ g. list_any (in_group g) ws ≡ true) ks →
           AllByRecursion (λ (b : Item). first_id (members_of ws h) ≢ b.id) (map (item_of_members qs) (map (members_of ws) ks))
       others [] differ known = tt
       others (k ∷ ks) differ known = (ids_apart h k there.0 known.0 differ.0, others ks differ.1 known.1)
@@ -207,7 +208,7 @@ groups_there p (w ∷ ws) = by (p w) (weaker (map (λ (v : Queued). v.group) (fi
 
 -- the groups of a cycle
 module _ (q : QueueRecord) (t : ℕ) (kept : IsQueue q) where
-  groups_distinct : IsDistinct same_name (groups_at q t)
+  groups_distinct : IsDistinct same_bytes (groups_at q t)
   groups_distinct = listed_distinct (map (λ (w : Queued). w.group) (filter (may_settle q t) q.waiting))
 
   groups_some : AllByRecursion (λ g. list_any (in_group g) q.waiting ≡ true) (groups_at q t)

@@ -8,7 +8,7 @@ use Rattle.std.specs.Cmp.Lexicographic.{nat_list_eq_equiv}
 use Rattle.std.proofs.lemmas.List.Sums.{sum_by-cons, sum_by_push, length-filter, count_by-le-length}
 use Rattle.std.proofs.lemmas.List.Folds.{list_any-append}
 use Rattle.std.proofs.lemmas.List.Elements.{All-push, All-filter, All-weaker, All-from_recursion, recursion_from_All}
-use Rattle.dali_account.specs.Book.{same_name}
+use Rattle.dali_base.specs.Readers.{same_bytes}
 use Rattle.dali_account.proofs.SumLemmas.{same_name_is, same_name_refl}
 use Rattle.dali_queue.specs.declared.cutoffs.Cutoffs.{Cutoffs}
 use Rattle.dali_queue.specs.declared.instruction.Instruction.{Instruction}
@@ -25,35 +25,35 @@ pub count_cons : (g : List ℕ) (w : Queued) (ws : List Queued) → count_by (in
 count_cons g w ws = sum_by-cons (λ v. cond (in_group g v) 1 0) w ws
 
 -- an id that is used stays so
-still_used : (used : List (List ℕ)) (id other : List ℕ) → list_any (same_name id) used ≡ true → list_any (same_name id) (used ++ other ∷ []) ≡ true
-still_used used id other told = list_any-append (same_name id) used (other ∷ []) ∙ ap (λ t. t || list_any (same_name id) (other ∷ [])) told
+still_used : (used : List (List ℕ)) (id other : List ℕ) → list_any (same_bytes id) used ≡ true → list_any (same_bytes id) (used ++ other ∷ []) ≡ true
+still_used used id other told = list_any-append (same_bytes id) used (other ∷ []) ∙ ap (λ t. t || list_any (same_bytes id) (other ∷ [])) told
 
-now_used : (used : List (List ℕ)) (id : List ℕ) → list_any (same_name id) (used ++ id ∷ []) ≡ true
-now_used used id = list_any-append (same_name id) used (id ∷ []) ∙ ap (λ t. list_any (same_name id) used || (t || false)) (same_name_refl id) ∙ or_true (list_any (same_name id) used)
+now_used : (used : List (List ℕ)) (id : List ℕ) → list_any (same_bytes id) (used ++ id ∷ []) ≡ true
+now_used used id = list_any-append (same_bytes id) used (id ∷ []) ∙ ap (λ t. list_any (same_bytes id) used || (t || false)) (same_name_refl id) ∙ or_true (list_any (same_bytes id) used)
   where
     or_true : (b : Bool) → (b || true) ≡ true
     or_true true = refl
     or_true false = refl
 
 -- names that aren't used differ from those that are
-pub used_apart : (used : List (List ℕ)) (id name : List ℕ) → list_any (same_name id) used ≡ false → list_any (same_name name) used ≡ true → same_name id name ≡ false
-used_apart used id name new old = by (same_name id name) refl
+pub used_apart : (used : List (List ℕ)) (id name : List ℕ) → list_any (same_bytes id) used ≡ false → list_any (same_bytes name) used ≡ true → same_bytes id name ≡ false
+used_apart used id name new old = by (same_bytes id name) refl
   where
-    by : (b : Bool) → same_name id name ≡ b → b ≡ false
+    by : (b : Bool) → same_bytes id name ≡ b → b ≡ false
     by false told = refl
-    by true told = absurd (true≢false (sym old ∙ ap (λ n. list_any (same_name n) used) (sym (same_name_is id name told)) ∙ new))
+    by true told = absurd (true≢false (sym old ∙ ap (λ n. list_any (same_bytes n) used) (sym (same_name_is id name told)) ∙ new))
 
 -- no instruction is in a group whose name isn't used
-pub count_none : (used : List (List ℕ)) (id : List ℕ) (ws : List Queued) → list_any (same_name id) used ≡ false → AllByRecursion (λ (w : Queued). IsTrue (list_any (same_name w.group) used)) ws → count_by (in_group id) ws ≡ 0
+pub count_none : (used : List (List ℕ)) (id : List ℕ) (ws : List Queued) → list_any (same_bytes id) used ≡ false → AllByRecursion (λ (w : Queued). IsTrue (list_any (same_bytes w.group) used)) ws → count_by (in_group id) ws ≡ 0
 count_none used id [] new old = refl
 count_none used id (w ∷ ws) new old =
     let rest = count_none used id ws new old.1 in
     let head : bit (in_group id w) ≡ 0 = ap bit (used_apart used id w.group new old.0) in
     omega (arith, count_cons id w ws, rest, head)
 
-module _ (used : List (List ℕ)) (id : List ℕ) (new : list_any (same_name id) used ≡ false) where
+module _ (used : List (List ℕ)) (id : List ℕ) (new : list_any (same_bytes id) used ≡ false) where
   -- nor is one queued under an id that isn't used
-  pub not_queued : (ws : List Queued) → AllByRecursion (λ (w : Queued). IsTrue (list_any (same_name w.item.id) used)) ws → is_queued ws id ≡ false
+  pub not_queued : (ws : List Queued) → AllByRecursion (λ (w : Queued). IsTrue (list_any (same_bytes w.item.id) used)) ws → is_queued ws id ≡ false
   not_queued [] old = refl
   not_queued (w ∷ ws) old = ap (λ b. is_some (cond b (Some w) (find ws id))) (used_apart used id w.item.id new old.0) ∙ not_queued ws old.1
 
@@ -61,11 +61,11 @@ pub new_not_queued : (q : QueueRecord) (id : List ℕ) → IsQueue q → is_used
 new_not_queued q id kept new = not_queued q.used id new q.waiting (recursion_from_All (λ (w : Queued). IsTrue (is_used q w.item.id)) q.waiting kept.ids_used)
 
 -- nor among the ids
-not_among : (used : List (List ℕ)) (id : List ℕ) → list_any (same_name id) used ≡ false → (ws : List Queued) → AllByRecursion (λ (w : Queued). IsTrue (list_any (same_name w.item.id) used)) ws → list_any (same_name id) (map id_of ws) ≡ false
+not_among : (used : List (List ℕ)) (id : List ℕ) → list_any (same_bytes id) used ≡ false → (ws : List Queued) → AllByRecursion (λ (w : Queued). IsTrue (list_any (same_bytes w.item.id) used)) ws → list_any (same_bytes id) (map id_of ws) ≡ false
 not_among used id new [] old = refl
-not_among used id new (w ∷ ws) old = ap (λ b. b || list_any (same_name id) (map id_of ws)) (used_apart used id w.item.id new old.0) ∙ not_among used id new ws old.1
+not_among used id new (w ∷ ws) old = ap (λ b. b || list_any (same_bytes id) (map id_of ws)) (used_apart used id w.item.id new old.0) ∙ not_among used id new ws old.1
 
-distinct_none : IsDistinct same_name []
+distinct_none : IsDistinct same_bytes []
 unfolding IsDistinct
 distinct_none = tt
 
@@ -75,8 +75,8 @@ queue_none cutoffs = record {
   few = omega arith;
   distinct = distinct_none;
   items = All-from_recursion (λ (w : Queued). IsInstruction w.item) [] tt;
-  ids_used = All-from_recursion (λ (w : Queued). IsTrue (list_any (same_name w.item.id) [])) [] tt;
-  groups_used = All-from_recursion (λ (w : Queued). IsTrue (list_any (same_name w.group) [])) [] tt;
+  ids_used = All-from_recursion (λ (w : Queued). IsTrue (list_any (same_bytes w.item.id) [])) [] tt;
+  groups_used = All-from_recursion (λ (w : Queued). IsTrue (list_any (same_bytes w.group) [])) [] tt;
   linked = λ g. omega arith;
 }
 
@@ -84,24 +84,24 @@ queue_none cutoffs = record {
 pub queue_entered : (q : QueueRecord) (i : Instruction) → IsQueue q → IsInstruction i → length q.waiting < 1024 → is_used q i.id ≡ false → IsQueue (entered q i)
 queue_entered q i kept item room new = record {
   few = omega (arith, length-append q.waiting (record { item = i; group = i.id } ∷ []), room);
-  distinct = subst (IsDistinct same_name) (sym (map-append id_of q.waiting (record { item = i; group = i.id } ∷ [])))
+  distinct = subst (IsDistinct same_bytes) (sym (map-append id_of q.waiting (record { item = i; group = i.id } ∷ [])))
       (IsDistinct-push nat_list_eq_equiv (map id_of q.waiting) i.id kept.distinct
       (not_among q.used i.id new q.waiting (recursion_from_All (λ (w : Queued). IsTrue (is_used q w.item.id)) q.waiting kept.ids_used)));
   items = All-push (λ (w : Queued). IsInstruction w.item) q.waiting _ kept.items item;
-  ids_used = All-push (λ (w : Queued). IsTrue (list_any (same_name w.item.id) (q.used ++ i.id ∷ []))) q.waiting _
-      (All-weaker (λ (w : Queued). IsTrue (list_any (same_name w.item.id) q.used)) (λ (w : Queued). IsTrue (list_any (same_name w.item.id) (q.used ++ i.id ∷ []))) (λ w told. still_used q.used w.item.id i.id told) q.waiting kept.ids_used)
+  ids_used = All-push (λ (w : Queued). IsTrue (list_any (same_bytes w.item.id) (q.used ++ i.id ∷ []))) q.waiting _
+      (All-weaker (λ (w : Queued). IsTrue (list_any (same_bytes w.item.id) q.used)) (λ (w : Queued). IsTrue (list_any (same_bytes w.item.id) (q.used ++ i.id ∷ []))) (λ w told. still_used q.used w.item.id i.id told) q.waiting kept.ids_used)
       (now_used q.used i.id);
-  groups_used = All-push (λ (w : Queued). IsTrue (list_any (same_name w.group) (q.used ++ i.id ∷ []))) q.waiting _
-      (All-weaker (λ (w : Queued). IsTrue (list_any (same_name w.group) q.used)) (λ (w : Queued). IsTrue (list_any (same_name w.group) (q.used ++ i.id ∷ []))) (λ w told. still_used q.used w.group i.id told) q.waiting kept.groups_used)
+  groups_used = All-push (λ (w : Queued). IsTrue (list_any (same_bytes w.group) (q.used ++ i.id ∷ []))) q.waiting _
+      (All-weaker (λ (w : Queued). IsTrue (list_any (same_bytes w.group) q.used)) (λ (w : Queued). IsTrue (list_any (same_bytes w.group) (q.used ++ i.id ∷ []))) (λ w told. still_used q.used w.group i.id told) q.waiting kept.groups_used)
       (now_used q.used i.id);
   linked = λ g.
-      let pushed : count_by (in_group g) (q.waiting ++ record { item = i; group = i.id } ∷ []) ≡ count_by (in_group g) q.waiting + cond (same_name g i.id) 1 0 =
+      let pushed : count_by (in_group g) (q.waiting ++ record { item = i; group = i.id } ∷ []) ≡ count_by (in_group g) q.waiting + cond (same_bytes g i.id) 1 0 =
       sum_by_push (λ w. cond (in_group g w) 1 0) q.waiting (record { item = i; group = i.id }) in
-      let fits : count_by (in_group g) q.waiting + cond (same_name g i.id) 1 0 ≤ 8 = by g (same_name g i.id) refl in
+      let fits : count_by (in_group g) q.waiting + cond (same_bytes g i.id) 1 0 ≤ 8 = by g (same_bytes g i.id) refl in
       omega (arith, pushed, fits);
 }
   where
-    by : (g : List ℕ) (b : Bool) → same_name g i.id ≡ b → count_by (in_group g) q.waiting + cond b 1 0 ≤ 8
+    by : (g : List ℕ) (b : Bool) → same_bytes g i.id ≡ b → count_by (in_group g) q.waiting + cond b 1 0 ≤ 8
     by g true told =
         let none : count_by (in_group i.id) q.waiting ≡ 0 = count_none q.used i.id q.waiting new (recursion_from_All (λ (w : Queued). IsTrue (is_used q w.group)) q.waiting kept.groups_used) in
         let own : count_by (in_group g) q.waiting ≡ 0 = ap (λ h. count_by (in_group h) q.waiting) (same_name_is g i.id told) ∙ none in
@@ -118,20 +118,20 @@ count_filter t g (w ∷ ws) = by (t w) (count_filter t g ws)
     by false rest = omega (arith, count_cons g w ws, rest)
 
 -- ids that differ still do
-apart_filter : (t : Queued → Bool) (id : List ℕ) (ws : List Queued) → AllByRecursion (λ k. same_name id k ≡ false) (map id_of ws) → AllByRecursion (λ k. same_name id k ≡ false) (map id_of (filter t ws))
+apart_filter : (t : Queued → Bool) (id : List ℕ) (ws : List Queued) → AllByRecursion (λ k. same_bytes id k ≡ false) (map id_of ws) → AllByRecursion (λ k. same_bytes id k ≡ false) (map id_of (filter t ws))
 apart_filter t id [] apart = tt
 apart_filter t id (w ∷ ws) apart = by (t w) (apart_filter t id ws apart.1)
   where
-    by : (b : Bool) → AllByRecursion (λ k. same_name id k ≡ false) (map id_of (filter t ws)) → AllByRecursion (λ k. same_name id k ≡ false) (map id_of (cond b (w ∷ filter t ws) (filter t ws)))
+    by : (b : Bool) → AllByRecursion (λ k. same_bytes id k ≡ false) (map id_of (filter t ws)) → AllByRecursion (λ k. same_bytes id k ≡ false) (map id_of (cond b (w ∷ filter t ws) (filter t ws)))
     by true rest = (apart.0, rest)
     by false rest = rest
 
-distinct_filter : (t : Queued → Bool) (ws : List Queued) → IsDistinct same_name (map id_of ws) → IsDistinct same_name (map id_of (filter t ws))
+distinct_filter : (t : Queued → Bool) (ws : List Queued) → IsDistinct same_bytes (map id_of ws) → IsDistinct same_bytes (map id_of (filter t ws))
 unfolding IsDistinct
 distinct_filter t [] distinct = tt
 distinct_filter t (w ∷ ws) distinct = by (t w) (distinct_filter t ws distinct.1)
   where
-    by : (b : Bool) → IsDistinct same_name (map id_of (filter t ws)) → IsDistinct same_name (map id_of (cond b (w ∷ filter t ws) (filter t ws)))
+    by : (b : Bool) → IsDistinct same_bytes (map id_of (filter t ws)) → IsDistinct same_bytes (map id_of (cond b (w ∷ filter t ws) (filter t ws)))
     by true rest = (apart_filter t w.item.id ws distinct.0, rest)
     by false rest = rest
 
@@ -172,20 +172,20 @@ all_others P places k (w ∷ ws) all = by (list_any (nat_eq k) places) (all_othe
 All-others : (P : Queued → Type 0) (places : List ℕ) (ws : List Queued) → All P ws → All P (others places 0 ws)
 All-others P places ws all = All-from_recursion P (others places 0 ws) (all_others P places 0 ws (recursion_from_All P ws all))
 
-apart_others : (places : List ℕ) (k : ℕ) (id : List ℕ) (ws : List Queued) → AllByRecursion (λ n. same_name id n ≡ false) (map id_of ws) → AllByRecursion (λ n. same_name id n ≡ false) (map id_of (others places k ws))
+apart_others : (places : List ℕ) (k : ℕ) (id : List ℕ) (ws : List Queued) → AllByRecursion (λ n. same_bytes id n ≡ false) (map id_of ws) → AllByRecursion (λ n. same_bytes id n ≡ false) (map id_of (others places k ws))
 apart_others places k id [] apart = tt
 apart_others places k id (w ∷ ws) apart = by (list_any (nat_eq k) places) (apart_others places (k + 1) id ws apart.1)
   where
-    by : (b : Bool) → AllByRecursion (λ n. same_name id n ≡ false) (map id_of (others places (k + 1) ws)) → AllByRecursion (λ n. same_name id n ≡ false) (map id_of (cond b (others places (k + 1) ws) (w ∷ others places (k + 1) ws)))
+    by : (b : Bool) → AllByRecursion (λ n. same_bytes id n ≡ false) (map id_of (others places (k + 1) ws)) → AllByRecursion (λ n. same_bytes id n ≡ false) (map id_of (cond b (others places (k + 1) ws) (w ∷ others places (k + 1) ws)))
     by true rest = rest
     by false rest = (apart.0, rest)
 
-distinct_others : (places : List ℕ) (k : ℕ) (ws : List Queued) → IsDistinct same_name (map id_of ws) → IsDistinct same_name (map id_of (others places k ws))
+distinct_others : (places : List ℕ) (k : ℕ) (ws : List Queued) → IsDistinct same_bytes (map id_of ws) → IsDistinct same_bytes (map id_of (others places k ws))
 unfolding IsDistinct
 distinct_others places k [] distinct = tt
 distinct_others places k (w ∷ ws) distinct = by (list_any (nat_eq k) places) (distinct_others places (k + 1) ws distinct.1)
   where
-    by : (b : Bool) → IsDistinct same_name (map id_of (others places (k + 1) ws)) → IsDistinct same_name (map id_of (cond b (others places (k + 1) ws) (w ∷ others places (k + 1) ws)))
+    by : (b : Bool) → IsDistinct same_bytes (map id_of (others places (k + 1) ws)) → IsDistinct same_bytes (map id_of (cond b (others places (k + 1) ws) (w ∷ others places (k + 1) ws)))
     by true rest = rest
     by false rest = (apart_others places (k + 1) w.item.id ws distinct.0, rest)
 
@@ -202,12 +202,12 @@ queue_removed q places kept = record {
 -- another rank
 module _ (id : List ℕ) (rank : ℕ) where
   reranked : Queued → Queued
-  reranked w = cond (same_name id w.item.id) (with_rank w rank) w
+  reranked w = cond (same_bytes id w.item.id) (with_rank w rank) w
 
   count_ranked : (g : List ℕ) (ws : List Queued) → count_by (in_group g) (ranked ws id rank) ≡ count_by (in_group g) ws
   count_ranked g [] = refl
-  count_ranked g (w ∷ ws) = count_cons g (cond (same_name id w.item.id) (with_rank w rank) w) (ranked ws id rank)
-      ∙ ap (λ b. bit b + count_by (in_group g) (ranked ws id rank)) (by (same_name id w.item.id))
+  count_ranked g (w ∷ ws) = count_cons g (cond (same_bytes id w.item.id) (with_rank w rank) w) (ranked ws id rank)
+      ∙ ap (λ b. bit b + count_by (in_group g) (ranked ws id rank)) (by (same_bytes id w.item.id))
       ∙ ap (λ n. bit (in_group g w) + n) (count_ranked g ws) ∙ sym (count_cons g w ws)
     where
       by : (b : Bool) → in_group g (cond b (with_rank w rank) w) ≡ in_group g w
@@ -216,7 +216,7 @@ module _ (id : List ℕ) (rank : ℕ) where
 
   ids_ranked : (ws : List Queued) → map id_of ws ≡ map id_of (ranked ws id rank)
   ids_ranked [] = refl
-  ids_ranked (w ∷ ws) = ap (λ i. i ∷ map id_of ws) (by (same_name id w.item.id)) ∙ ap (λ is. id_of (cond (same_name id w.item.id) (with_rank w rank) w) ∷ is) (ids_ranked ws)
+  ids_ranked (w ∷ ws) = ap (λ i. i ∷ map id_of ws) (by (same_bytes id w.item.id)) ∙ ap (λ is. id_of (cond (same_bytes id w.item.id) (with_rank w rank) w) ∷ is) (ids_ranked ws)
     where
       by : (b : Bool) → w.item.id ≡ id_of (cond b (with_rank w rank) w)
       by true = refl
@@ -224,7 +224,7 @@ module _ (id : List ℕ) (rank : ℕ) where
 
   all_ranked : (P : Queued → Type 0) → ((w : Queued) → P w → P (with_rank w rank)) → (ws : List Queued) → AllByRecursion P ws → AllByRecursion P (ranked ws id rank)
   all_ranked P too [] all = tt
-  all_ranked P too (w ∷ ws) all = (by (same_name id w.item.id), all_ranked P too ws all.1)
+  all_ranked P too (w ∷ ws) all = (by (same_bytes id w.item.id), all_ranked P too ws all.1)
     where
       by : (b : Bool) → P (cond b (with_rank w rank) w)
       by true = too w all.0
@@ -235,8 +235,8 @@ module _ (id : List ℕ) (rank : ℕ) where
 
   pub queue_ranked : (q : QueueRecord) → IsQueue q → 1 ≤ rank → rank ≤ 16 → IsQueue (record q { waiting = ranked q.waiting id rank })
   queue_ranked q kept low high = record {
-    few = let before = kept.few in omega (arith, length-map q.waiting (λ (w : Queued). cond (same_name id w.item.id) (with_rank w rank) w), before);
-    distinct = subst (IsDistinct same_name) (ids_ranked q.waiting) kept.distinct;
+    few = let before = kept.few in omega (arith, length-map q.waiting (λ (w : Queued). cond (same_bytes id w.item.id) (with_rank w rank) w), before);
+    distinct = subst (IsDistinct same_bytes) (ids_ranked q.waiting) kept.distinct;
     items = All-ranked (λ (w : Queued). IsInstruction w.item) (λ w h. record { parties = h.parties; code = h.code; quantity = h.quantity; cash = h.cash; value = h.value; rank_low = low; rank_high = high }) q.waiting kept.items;
     ids_used = All-ranked (λ (w : Queued). IsTrue (is_used q w.item.id)) (λ w h. h) q.waiting kept.ids_used;
     groups_used = All-ranked (λ (w : Queued). IsTrue (is_used q w.group)) (λ w h. h) q.waiting kept.groups_used;
@@ -260,7 +260,7 @@ module _ (from to : List ℕ) where
       by true = let one = one_at_most (in_group to (with_group w to)) in omega (arith, one)
       by false = omega arith
 
-  count_else : (g : List ℕ) → same_name g to ≡ false → (ws : List Queued) → count_by (in_group g) (regrouped ws from to) ≤ count_by (in_group g) ws
+  count_else : (g : List ℕ) → same_bytes g to ≡ false → (ws : List Queued) → count_by (in_group g) (regrouped ws from to) ≤ count_by (in_group g) ws
   count_else g apart [] = omega arith
   count_else g apart (w ∷ ws) =
       let rest = count_else g apart ws in
@@ -268,7 +268,7 @@ module _ (from to : List ℕ) where
       omega (arith, count_cons g (cond (in_group from w) (with_group w to) w) (regrouped ws from to), count_cons g w ws, head, rest)
     where
       by : (b : Bool) → bit (in_group g (cond b (with_group w to) w)) ≤ bit (in_group g w)
-      by true = let none : bit (same_name g to) ≡ 0 = ap bit apart in omega (arith, none)
+      by true = let none : bit (same_bytes g to) ≡ 0 = ap bit apart in omega (arith, none)
       by false = omega arith
 
   ids_regrouped : (ws : List Queued) → map id_of ws ≡ map id_of (regrouped ws from to)
@@ -293,14 +293,14 @@ module _ (from to : List ℕ) where
   pub queue_regrouped : (q : QueueRecord) → IsQueue q → IsTrue (is_used q to) → count_by (in_group to) q.waiting + count_by (in_group from) q.waiting ≤ 8 → IsQueue (record q { waiting = regrouped q.waiting from to })
   queue_regrouped q kept known fits = record {
     few = let before = kept.few in omega (arith, length-map q.waiting (λ (w : Queued). cond (in_group from w) (with_group w to) w), before);
-    distinct = subst (IsDistinct same_name) (ids_regrouped q.waiting) kept.distinct;
+    distinct = subst (IsDistinct same_bytes) (ids_regrouped q.waiting) kept.distinct;
     items = All-regrouped (λ (w : Queued). IsInstruction w.item) (λ w h. h) q.waiting kept.items;
     ids_used = All-regrouped (λ (w : Queued). IsTrue (is_used q w.item.id)) (λ w h. h) q.waiting kept.ids_used;
     groups_used = All-regrouped (λ (w : Queued). IsTrue (is_used q w.group)) (λ w h. known) q.waiting kept.groups_used;
-    linked = λ g. by g (same_name g to) refl;
+    linked = λ g. by g (same_bytes g to) refl;
   }
     where
-      by : (g : List ℕ) (b : Bool) → same_name g to ≡ b → count_by (in_group g) (regrouped q.waiting from to) ≤ 8
+      by : (g : List ℕ) (b : Bool) → same_bytes g to ≡ b → count_by (in_group g) (regrouped q.waiting from to) ≤ 8
       by g true told =
           let own = count_own q.waiting in
           let is : count_by (in_group g) (regrouped q.waiting from to) ≡ count_by (in_group to) (regrouped q.waiting from to) = ap (λ h. count_by (in_group h) (regrouped q.waiting from to)) (same_name_is g to told) in
@@ -308,15 +308,15 @@ module _ (from to : List ℕ) where
       by g false told = let fewer = count_else g told q.waiting in let before = kept.linked g in omega (arith, fewer, before)
 
 -- the group of a queued instruction is used
-pub group_used : (used : List (List ℕ)) (ws : List Queued) (id g : List ℕ) → AllByRecursion (λ (w : Queued). IsTrue (list_any (same_name w.group) used)) ws → group_of ws id ≡ Some g → IsTrue (list_any (same_name g) used)
+pub group_used : (used : List (List ℕ)) (ws : List Queued) (id g : List ℕ) → AllByRecursion (λ (w : Queued). IsTrue (list_any (same_bytes w.group) used)) ws → group_of ws id ≡ Some g → IsTrue (list_any (same_bytes g) used)
 group_used used [] id g all there = absurd (cc)
-group_used used (w ∷ ws) id g all there = by (same_name id w.item.id) refl (group_used used ws id g all.1)
+group_used used (w ∷ ws) id g all there = by (same_bytes id w.item.id) refl (group_used used ws id g all.1)
   where
-    by : (b : Bool) → same_name id w.item.id ≡ b → (group_of ws id ≡ Some g → IsTrue (list_any (same_name g) used)) → IsTrue (list_any (same_name g) used)
+    by : (b : Bool) → same_bytes id w.item.id ≡ b → (group_of ws id ≡ Some g → IsTrue (list_any (same_bytes g) used)) → IsTrue (list_any (same_bytes g) used)
     by true told rest =
         let first : Some w.group ≡ Some g = sym (ap (λ b. option_map (λ (v : Queued). v.group) (cond b (Some w) (find ws id))) told) ∙ there in
         let is : w.group ≡ g = cc in
-        subst (λ n. IsTrue (list_any (same_name n) used)) is all.0
+        subst (λ n. IsTrue (list_any (same_bytes n) used)) is all.0
     by false told rest = rest (sym (ap (λ b. option_map (λ (v : Queued). v.group) (cond b (Some w) (find ws id))) told) ∙ there)
 
 pub queue_linked : (q : QueueRecord) (first second to from : List ℕ) → IsQueue q → group_of q.waiting first ≡ Some to → group_of q.waiting second ≡ Some from →

@@ -2,8 +2,9 @@ use Rattle.std.specs.Prelude.{ℕ, ◌+◌, ◌&&◌, ◌==◌, Bool, List, [], 
 use Rattle.std.specs.List.{list_any, filter}
 use Rattle.std.specs.Option.{option_map_or}
 use Rattle.dali_base.specs.NameList.{place_of, with_name}
+use Rattle.dali_base.specs.Readers.{same_bytes}
 use Rattle.dali_account.specs.declared.net.Move.{Move}
-use Rattle.dali_account.specs.Book.{BookRecord, same_name, balance_of}
+use Rattle.dali_account.specs.Book.{BookRecord, balance_of}
 use Rattle.dali_account.specs.Net.{pair_of}
 use Rattle.dali_account.specs.Units.{PairKey}
 use Rattle.dali_problem.specs.declared.row.LineRow.{LineRow}
@@ -42,7 +43,7 @@ changed_by nets = in_order (flat_map (map pair_of) nets)
 
 -- the number of a pair's line
 abbrev pub line_of : List PairKey → PairKey → ℕ
-line_of pairs pair = unwrap_or (position (λ other. same_name pair.0 other.0 && same_name pair.1 other.1) pairs) 0
+line_of pairs pair = unwrap_or (position (λ other. same_bytes pair.0 other.0 && same_bytes pair.1 other.1) pairs) 0
 
 abbrev pub effect_on : List PairKey → Move → Effect
 effect_on pairs move = record { line = line_of pairs (pair_of move); amount = move.delta }

@@ -1,7 +1,8 @@
 use Rattle.std.specs.Prelude.{◌≢◌, ℕ, ◌≤◌, ◌&&◌, Bool, List, map, length, sum_by}
 use Rattle.std.specs.List.{All, AllPairs}
 use Rattle.dali_base.specs.Limits.{most_items, most_worths}
-use Rattle.dali_account.specs.Book.{BookRecord, same_name}
+use Rattle.dali_base.specs.Readers.{same_bytes}
+use Rattle.dali_account.specs.Book.{BookRecord}
 use Rattle.dali_account.specs.Units.{PairKey}
 use Rattle.dali_problem.specs.Clearing.{Item, Clearing}
 use Rattle.dali_problem.specs.Limits.{IsItem}
@@ -15,7 +16,7 @@ use Rattle.dali_queue.specs.NetOf.{net_of}
 
 -- equality of pairs, name by name
 abbrev pub same_pair : PairKey → PairKey → Bool
-same_pair p q = same_name p.0 q.0 && same_name p.1 q.1
+same_pair p q = same_bytes p.0 q.0 && same_bytes p.1 q.1
 
 -- what these instructions together bring to a problem
 abbrev pub draft_of : List Instruction → Draft

@@ -1,6 +1,6 @@
 use Rattle.std.specs.Prelude.{◌≡◌, ℕ, ◌+◌, ◌||◌, false, List, [], ◌∷◌, map, nat_eq, if◌then◌else◌}
 use Rattle.std.specs.List.{AllByRecursion, list_any}
-use Rattle.dali_account.specs.Book.{same_name}
+use Rattle.dali_base.specs.Readers.{same_bytes}
 use Rattle.indexmap.specs.IndexMap.{spare}
 use Rattle.dali_queue.specs.declared.entries.Entry.{Entry}
 use Rattle.dali_queue.specs.declared.entries.Entries.TheInside.{Inside}
@@ -27,4 +27,4 @@ marked places k (e ∷ es) = (e.0, record e.1 { leaving = list_any (nat_eq k) pl
 
 -- an entry that is in the group `to` where it was in the group `from`
 abbrev pub regrouped_entry : List ℕ → List ℕ → List ℕ × Entry → List ℕ × Entry
-regrouped_entry from to e = (e.0, if same_name from e.1.group then record e.1 { group = to } else e.1)
+regrouped_entry from to e = (e.0, if same_bytes from e.1.group then record e.1 { group = to } else e.1)

@@ -1,13 +1,13 @@
 use Rattle.std.specs.Prelude.{◌≡◌, ℕ, ◌+◌, ◌||◌, ◌&&◌, Bool, not, true, false, List, map, Option, nat_le, if◌then◌else◌}
 use Rattle.std.specs.List.{list_all, count_by}
 use Rattle.std.specs.Option.{option_map, option_map_or}
-use Rattle.dali_account.specs.Book.{same_name}
+use Rattle.dali_base.specs.Readers.{same_bytes}
 use Rattle.dali_queue.specs.Cutoffs.{cutoff_of}
 use Rattle.dali_queue.specs.Queue.{Queued, QueueRecord, find}
 
 -- whether the instruction is in the group of this name
 abbrev pub in_group : List ℕ → Queued → Bool
-in_group group w = same_name group w.group
+in_group group w = same_bytes group w.group
 
 -- the group of the queued instruction with this id
 abbrev pub group_of : List Queued → List ℕ → Option (List ℕ)
@@ -15,7 +15,7 @@ group_of ws id = option_map (λ w. w.group) (find ws id)
 
 -- whether both are queued and in one group
 abbrev pub same_group : List Queued → List ℕ → List ℕ → Bool
-same_group ws first second = option_map_or (λ g. option_map_or (same_name g) (group_of ws second) false) (group_of ws first) false
+same_group ws first second = option_map_or (λ g. option_map_or (same_bytes g) (group_of ws second) false) (group_of ws first) false
 
 -- the number of instructions in the group of the queued instruction with this id, 0 where it isn't queued
 abbrev pub group_size : List Queued → List ℕ → ℕ
@@ -40,8 +40,8 @@ is_eligible q moment group = list_all (λ w. not (in_group group w) || nat_le mo
 -- group as before
 pub record EntersAlone (old new : List Queued) (id : List ℕ) : Type 0 where
   pub size : group_size new id ≡ 1
-  pub alone : (other : List ℕ) → same_name other id ≡ false → same_group new id other ≡ false
-  pub others : (one other : List ℕ) → same_name one id ≡ false → same_name other id ≡ false → same_group new one other ≡ same_group old one other
+  pub alone : (other : List ℕ) → same_bytes other id ≡ false → same_group new id other ≡ false
+  pub others : (one other : List ℕ) → same_bytes one id ≡ false → same_bytes other id ≡ false → same_group new one other ≡ same_group old one other
 
 -- whether the instruction is in the group of one or of the other of these two
 abbrev pub in_either : List Queued → List ℕ → List ℕ → List ℕ → Bool

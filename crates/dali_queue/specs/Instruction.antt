@@ -2,14 +2,15 @@ use Rattle.std.specs.Prelude.{◌≡◌, ℕ, ◌≤◌, ◌*◌, ◌&&◌, ℤ,
 use Rattle.dali_base.specs.Limits.{most_quantity, most_rank}
 use Rattle.dali_base.specs.declared.kind.Kind.{Kind}
 use Rattle.dali_base.specs.declared.kind.Kind.TheVariants.{Dvp, Fop, Pay}
+use Rattle.dali_base.specs.Readers.{same_bytes}
 use Rattle.dali_account.specs.Units.{PairKey}
-use Rattle.dali_account.specs.Book.{same_name, cash}
+use Rattle.dali_account.specs.Book.{cash}
 use Rattle.dali_problem.specs.Sums.{pick}
 use Rattle.dali_queue.specs.declared.instruction.Instruction.{Instruction}
 
 -- z at the pair (account, asset), and 0 at every other pair
 abbrev pub at_pair : List ℕ → List ℕ → ℤ → PairKey → ℤ
-at_pair account asset z pair = pick (same_name account pair.0 && same_name asset pair.1) z
+at_pair account asset z pair = pick (same_bytes account pair.0 && same_bytes asset pair.1) z
 
 -- n units of an asset go from a giver to a taker: what the pair receives less what it gives
 unfoldable pub moved : ℕ → List ℕ → List ℕ → List ℕ → PairKey → ℤ
@@ -46,8 +47,8 @@ IsCash Pay n = n ≡ 0
 
 -- the bounds of an instruction
 pub record IsInstruction (i : Instruction) : Type 0 where
-  pub parties : same_name i.giver i.taker ≡ false
-  pub code : same_name i.code cash ≡ is_payment i.kind
+  pub parties : same_bytes i.giver i.taker ≡ false
+  pub code : same_bytes i.code cash ≡ is_payment i.kind
   pub quantity : IsAmount i.quantity
   pub cash : IsCash i.kind i.cash
   pub value : IsAmount i.value

@@ -2,7 +2,7 @@ use Rattle.std.specs.Prelude.{ℕ, ◌+◌, Bool, not, List, [], ◌∷◌, ◌+
 use Rattle.std.specs.List.{list_any, filter}
 use Rattle.std.specs.Option.{option_map}
 use Rattle.dali_base.specs.NameList.{place_of}
-use Rattle.dali_account.specs.Book.{same_name}
+use Rattle.dali_base.specs.Readers.{same_bytes}
 use Rattle.dali_queue.specs.declared.cutoffs.Cutoffs.{Cutoffs}
 use Rattle.dali_queue.specs.declared.instruction.Instruction.{Instruction}
 
@@ -27,12 +27,12 @@ id_of w = w.item.id
 
 -- whether an instruction with this id was ever accepted
 abbrev pub is_used : QueueRecord → List ℕ → Bool
-is_used q id = list_any (same_name id) q.used
+is_used q id = list_any (same_bytes id) q.used
 
 -- the queued instruction with this id
 abbrev pub find : List Queued → List ℕ → Option Queued
 find [] id = None
-find (w ∷ ws) id = if same_name id w.item.id then Some w else find ws id
+find (w ∷ ws) id = if same_bytes id w.item.id then Some w else find ws id
 
 abbrev pub is_queued : List Queued → List ℕ → Bool
 is_queued ws id = is_some (find ws id)
@@ -50,7 +50,7 @@ entered q i = record q { waiting = q.waiting ++ record { item = i; group = i.id 
 
 -- the queue without the instruction that has this id
 abbrev pub without : List Queued → List ℕ → List Queued
-without ws id = filter (λ w. not (same_name id w.item.id)) ws
+without ws id = filter (λ w. not (same_bytes id w.item.id)) ws
 
 -- the items whose places, counted from k, aren't among these
 abbrev pub others : {X : Type 0} → List ℕ → ℕ → List X → List X
@@ -66,4 +66,4 @@ with_rank w rank = record w { item = record w.item { rank = rank } }
 
 -- the queue with this rank for the instruction that has the id
 abbrev pub ranked : List Queued → List ℕ → ℕ → List Queued
-ranked ws id rank = map (λ (w : Queued). if same_name id w.item.id then with_rank w rank else w) ws
+ranked ws id rank = map (λ (w : Queued). if same_bytes id w.item.id then with_rank w rank else w) ws

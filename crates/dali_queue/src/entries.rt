@@ -1,7 +1,7 @@
 ghost use Rattle.std.specs.Prelude.{◌≡◌, ◌<◌, ◌≤◌, ◌+◌, ◌++◌, [], ◌∷◌, map, length, slice_get, option_copied, false, is_some, IsOk, IfNone, OnOk, OnSome};
 ghost use Rattle.std.specs.List.{count_by};
 ghost use Rattle.std.specs.Option.{option_map};
-ghost use Rattle.dali_account.specs.Book.{same_name};
+ghost use Rattle.dali_base.specs.Readers.{same_bytes};
 ghost use Rattle.indexmap.specs.IndexMap.{spare};
 ghost use Rattle.dali_queue.specs.declared.entries.Entry.{Entry};
 ghost use Rattle.dali_queue.specs.EntryList.{regrouped_entry};
@@ -167,7 +167,7 @@ impl Entries {
 
 /// The number of entries in a group.
 fn count_in(entries: &[Entry], group: Name) -> usize
-    ensures { result ≡ count_by (λ (e : Entry). same_name group e.group) entries.now }
+    ensures { result ≡ count_by (λ (e : Entry). same_bytes group e.group) entries.now }
 {
     entries.iter().filter(|entry| group == entry.group).count()
 }

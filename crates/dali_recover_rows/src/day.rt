@@ -63,12 +63,12 @@ impl Day {
                 asset,
                 quantity,
             } => {
-                if self.knows(account) && Some(asset) == read_name(b"MXN") {
+                if self.has_account(account) && Some(asset) == read_name(b"MXN") {
                     self.issued = Some((account, quantity));
                 }
             }
             Verb::Pay { from, to, cash, .. } => {
-                if self.knows(from) && self.knows(to) && from != to {
+                if self.has_account(from) && self.has_account(to) && from != to {
                     self.payment = Some(Payment { from, cash });
                 }
             }
@@ -76,12 +76,12 @@ impl Day {
         }
     }
 
-    fn knows(&self, account: Name) -> bool {
+    fn has_account(&self, account: Name) -> bool {
         self.first == Some(account) || self.second == Some(account)
     }
 
     fn open(&mut self, account: Name) {
-        if self.knows(account) {
+        if self.has_account(account) {
             return;
         }
         if self.first.is_none() {

@@ -16,6 +16,7 @@ use Rattle.dali_line.specs.Commands.{is_command}
 use Rattle.dali_line.specs.Line.{is_line, MOST_OF_COMMAND}
 use Rattle.dali_problem.specs.Clearing.{Clearing}
 use Rattle.dali_problem.specs.Limits.{IsProblem}
+use Rattle.dali_problem.specs.Feasible.{has}
 use Rattle.dali_tree.specs.declared.fix.Fix.{Fix}
 use Rattle.dali_tree.specs.declared.fix.Fix.TheVariants.{Barred, Needed, Safe}
 use Rattle.dali_tree.specs.declared.tree.Tree.{Tree}
@@ -27,7 +28,6 @@ use Rattle.dali_tree.specs.declared.choice.Part.{Part}
 use Rattle.dali_tree.specs.declared.choice.Choice.{Choice}
 use Rattle.dali_tree.specs.Fits.{fix_fits, is_rising, multiplier_fits, lam_fits, end_fits, tree_fits, AreRising, PartFits, Fits}
 use Rattle.dali_entry.specs.EntryRecord.{EntryRecord}
-use Rattle.dali_check.specs.Sides.{has}
 use Rattle.dali_check.specs.Allowed.{Allowed}
 use Rattle.dali_check.proofs.Certified.{certified}
 use Rattle.dali_check.proofs.Entering.{has_at}

@@ -2,7 +2,7 @@ ghost use Rattle.std.specs.Prelude.{◌≡◌, ◌++◌, ◌∷◌, [], OnOk, de
 ghost use Rattle.std.specs.Fmt.{signed_decimal};
 ghost use Rattle.dali_reply.specs.Reply.{ok_line, no_line, end_line, cycle_line, post_line, mark_text, wait_line, balance_line, held_line, posting_line};
 
-use crate::words::{code_word, kind_word, mark_word};
+use crate::words::{code_word, kind_bytes, mark_word};
 use dali_account::Pair;
 use dali_base::{Name, OutOfMemory, Text};
 use dali_cert_print::{add_field, add_number, end};
@@ -66,7 +66,7 @@ pub(crate) fn add_wait(text: &mut Text, number: u64, row: &WaitRow) -> Result<()
 {
     begin(text, number, b"WAIT")?;
     add_field(text, row.id.bytes())?;
-    add_field(text, kind_word(row.kind))?;
+    add_field(text, kind_bytes(row.kind))?;
     add_number(text, row.value)?;
     end(text)
 }

@@ -38,7 +38,7 @@ pub(crate) fn mark_word(mark: CycleMark) -> &'static [u8]
 }
 
 /// The word of a kind.
-pub(crate) fn kind_word(kind: Kind) -> &'static [u8]
+pub(crate) fn kind_bytes(kind: Kind) -> &'static [u8]
     ensures { result.now ≡ kind_text kind }
 {
     match kind {

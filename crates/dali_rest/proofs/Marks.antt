@@ -7,7 +7,7 @@ use Rattle.dali_problem.specs.declared.mark.Mark.{Mark}
 use Rattle.dali_problem.specs.declared.mark.Mark.TheVariants.{Stranger, Chosen, Left}
 use Rattle.dali_problem.specs.Partial.{mark, is_decided}
 use Rattle.dali_problem.proofs.Opened.{within_decided}
-use Rattle.dali_rest.specs.Room.{StandsFor}
+use Rattle.dali_rest.specs.Room.{AreMarksOf}
 
 pub mark_same : (f : List Mark) (j : ℕ) (m : Mark) → j < length f → mark (set f j m) j ≡ m
 mark_same f j m within = get_or-set_same f j m Stranger within
@@ -21,7 +21,7 @@ put_back f j m was is = set-set f j m was ∙ ap (λ n. set f j n) (sym is) ∙ 
 
 -- one place more is chosen
 pub more_chosen : (n : ℕ) (s : List ℕ) (f g : List Mark) (i : ℕ) → i < length s → get_or s i 0 < length f → g ≡ set f (get_or s i 0) Chosen →
-    StandsFor n (take i s) f → StandsFor n (take (i + 1) s) g
+    AreMarksOf n (take i s) f → AreMarksOf n (take (i + 1) s) g
 more_chosen n s f g i within inside put so_far =
     let place : ℕ = get_or s i 0 in
     let more : take (i + 1) s ≡ take i s ++ place ∷ [] = take_more s i 0 within in
@@ -43,7 +43,7 @@ more_chosen n s f g i within inside put so_far =
     }
 
 -- no place is chosen yet
-pub none_chosen : (n : ℕ) (s : List ℕ) (f : List Mark) → s ≡ [] → ((j : ℕ) → j < n → mark f j ≡ Left) → StandsFor n s f
+pub none_chosen : (n : ℕ) (s : List ℕ) (f : List Mark) → s ≡ [] → ((j : ℕ) → j < n → mark f j ≡ Left) → AreMarksOf n s f
 none_chosen n s f nothing left = record {
   chosen = (λ j there. absurd (let is : Contains [] j = subst (λ (xs : List ℕ). Contains xs j) nothing there in omega (arith, is.1)));
   left = (λ j below out. left j below);

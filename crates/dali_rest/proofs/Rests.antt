@@ -12,12 +12,12 @@ use Rattle.dali_problem.specs.Sums.{pick}
 use Rattle.dali_problem.specs.Clearing.{Clearing, balance, effect}
 use Rattle.dali_problem.specs.Feasible.{ArePlaces, booked}
 use Rattle.dali_problem.specs.Partial.{mark, is_chosen, is_undecided, held}
-use Rattle.dali_problem.specs.Rest.{credits_of, IsPart, IsRest}
+use Rattle.dali_problem.specs.Rest.{credits_of, IsSubset, IsRest}
 use Rattle.dali_problem.specs.Rules.{credits}
 use Rattle.dali_problem.proofs.RuleTests.{undecided_is}
 use Rattle.dali_problem.proofs.SetLaws.{is_in, is_in_of, contains_of, is_in_rest, sum_over_in}
 use Rattle.dali_problem.proofs.SumLaws.{sum_below_same, sum_below_add, sum_over_append}
-use Rattle.dali_rest.specs.Room.{StandsFor, undecided_below}
+use Rattle.dali_rest.specs.Room.{AreMarksOf, undecided_below}
 use Rattle.dali_rest.specs.Sets.{outside}
 use Rattle.dali_rest.specs.Swaps.{AreDecided}
 use Rattle.dali_rest.specs.Turns.{IsPaid, AreUndecided, ArePaidFrom, IsTurn, IsOpened, AreChosen}
@@ -171,7 +171,7 @@ open_none f g h members i within not_left put so_far =
     }
 
 -- the chosen places are still those of the set
-pub rest_set : (p : Clearing) (s members : List ℕ) (f o g : List Mark) (j : ℕ) → StandsFor (length p.items) s f → IsOpened f o members → IsTurn p o g → length g ≡ length p.items →
+pub rest_set : (p : Clearing) (s members : List ℕ) (f o g : List Mark) (j : ℕ) → AreMarksOf (length p.items) s f → IsOpened f o members → IsTurn p o g → length g ≡ length p.items →
     (mark g j ≡ Chosen → Contains s j) × (Contains s j → mark g j ≡ Chosen)
 rest_set p s members f o g j stands opened turn size = (
   λ chosen. elim (turn.fewer j) as (λ _. Contains s j) [
@@ -210,7 +210,7 @@ below_credits p g l =
     (λ j below. ap (λ b. pick b (int_max (pos 0) (effect p j l))) (below_is g (length p.items) j below))
 
 -- what is left undecided is the rest
-pub rest_is : (p : Clearing) (s members : List ℕ) (f o g : List Mark) → ArePlaces p s → StandsFor (length p.items) s f → IsOpened f o members → IsTurn p o g →
+pub rest_is : (p : Clearing) (s members : List ℕ) (f o g : List Mark) → ArePlaces p s → AreMarksOf (length p.items) s f → IsOpened f o members → IsTurn p o g →
     ((j : ℕ) → mark g j ≡ Undecided → IsPaid p g j) → IsRest p s (outside members s) (undecided_below g (length p.items))
 rest_is p s members f o g places stands opened turn paid =
     let n : ℕ = length p.items in
@@ -306,10 +306,10 @@ same_rest p s c r t l places first second =
     let each = sum_below_same (λ j. pick (is_in j t) (effect p j l)) (λ j. pick (is_in j r) (effect p j l)) (length p.items) (λ j below. ap (λ b. pick b (effect p j l)) (same j)) in
     omega (arith, ints, split_t, split_r, sum_t, sum_r, each)
 
-empty_part : (t : List ℕ) → IsPart t [] → t ≡ []
+empty_part : (t : List ℕ) → IsSubset t [] → t ≡ []
 empty_part [] part = refl
 empty_part (x ∷ xs) part = absurd (let there = part.part x (0, omega arith, refl) in omega (arith, there.1))
 
 pub no_rest : (p : Clearing) (s c r t : List ℕ) → IsRest p s c r → IsRest p s c t → r ≡ [] → t ≡ []
 no_rest p s c r t first second none =
-    empty_part t (subst (IsPart t) none (first.greatest t second.places second.within second.payable))
+    empty_part t (subst (IsSubset t) none (first.greatest t second.places second.within second.payable))

@@ -15,7 +15,7 @@ use Rattle.dali_problem.specs.Rules.{is_negative}
 use Rattle.dali_problem.proofs.SumLaws.{sum_below_same}
 use Rattle.dali_problem.proofs.SetLaws.{is_in, is_in_of, contains_of, is_in_rest, booked_in}
 use Rattle.dali_rest.specs.Addable.{CanAddOne}
-use Rattle.dali_rest.specs.Room.{StandsFor, IsCovered}
+use Rattle.dali_rest.specs.Room.{AreMarksOf, IsCovered}
 use Rattle.dali_rest.specs.Sets.{without}
 use Rattle.dali_rest.specs.Swappable.{CanSwap}
 use Rattle.dali_rest.specs.Swaps.{AreDecided, HasBetter}
@@ -30,33 +30,33 @@ pub not_contains : (s : List ℕ) (j : ℕ) → is_in j s ≡ false → ¬ (Cont
 not_contains s j out there = absurd (let told : is_in j s ≡ true = is_in_of s j there in cc (told, out))
 
 -- a place that stands in the set is chosen, another is left
-pub stands_is : (p : Clearing) (s : List ℕ) (f : List Mark) (j : ℕ) → StandsFor (length p.items) s f → j < length p.items →
+pub stands_is : (p : Clearing) (s : List ℕ) (f : List Mark) (j : ℕ) → AreMarksOf (length p.items) s f → j < length p.items →
     is_chosen (mark f j) ≡ is_in j s
 stands_is p s f j stands below = by_test (is_in j s)
     (λ told. ap is_chosen (stands.chosen j (contains_of s j told)) ∙ sym told)
     (λ out. ap is_chosen (stands.left j below (not_contains s j out)) ∙ sym out)
 
-pub stands_in : (p : Clearing) (s : List ℕ) (f : List Mark) (j : ℕ) → StandsFor (length p.items) s f → j < length p.items → mark f j ≡ Chosen → Contains s j
+pub stands_in : (p : Clearing) (s : List ℕ) (f : List Mark) (j : ℕ) → AreMarksOf (length p.items) s f → j < length p.items → mark f j ≡ Chosen → Contains s j
 stands_in p s f j stands below chosen =
     contains_of s j (sym (stands_is p s f j stands below) ∙ ap is_chosen chosen)
 
-pub stands_out : (p : Clearing) (s : List ℕ) (f : List Mark) (j : ℕ) → StandsFor (length p.items) s f → mark f j ≡ Left → ¬ (Contains s j)
+pub stands_out : (p : Clearing) (s : List ℕ) (f : List Mark) (j : ℕ) → AreMarksOf (length p.items) s f → mark f j ≡ Left → ¬ (Contains s j)
 stands_out p s f j stands left there = absurd (let chosen : mark f j ≡ Chosen = stands.chosen j there in cc (left, chosen))
 
-pub stands_decided : (p : Clearing) (s : List ℕ) (f : List Mark) → StandsFor (length p.items) s f → AreDecided p f
+pub stands_decided : (p : Clearing) (s : List ℕ) (f : List Mark) → AreMarksOf (length p.items) s f → AreDecided p f
 stands_decided p s f stands = record {
   decided = (λ j below. by_test (is_in j s) {P = mark f j ≢ Undecided}
       (λ told. chosen_or (mark f j) (stands.chosen j (contains_of s j told)))
       (λ out. left_or (mark f j) (stands.left j below (not_contains s j out))));
 }
 
-pub stands_held : (p : Clearing) (s : List ℕ) (f : List Mark) (l : ℕ) → ArePlaces p s → StandsFor (length p.items) s f → held p f l ≡ booked p s l
+pub stands_held : (p : Clearing) (s : List ℕ) (f : List Mark) (l : ℕ) → ArePlaces p s → AreMarksOf (length p.items) s f → held p f l ≡ booked p s l
 stands_held p s f l places stands =
     ap (λ z. balance p l +ℤ z) (sum_below_same (λ j. pick (is_chosen (mark f j)) (effect p j l)) (λ j. pick (is_in j s) (effect p j l)) (length p.items)
     (λ j below. ap (λ b. pick b (effect p j l)) (stands_is p s f j stands below)))
     ∙ sym (booked_in p s l places)
 
-pub stands_covered : (p : Clearing) (s : List ℕ) (f : List Mark) → ArePlaces p s → IsFeasible p s → StandsFor (length p.items) s f → IsCovered p f
+pub stands_covered : (p : Clearing) (s : List ℕ) (f : List Mark) → ArePlaces p s → IsFeasible p s → AreMarksOf (length p.items) s f → IsCovered p f
 stands_covered p s f places feasible stands = record {
   covered = (λ l below. short_decided p f l (stands_decided p s f stands)
       ∙ ap is_negative (stands_held p s f l places stands) ∙ nonneg (booked p s l) (feasible.covered l below));
@@ -74,12 +74,12 @@ feasible_covered p t g all same feasible = record {
 }
 
 -- one place more
-one_more : (p : Clearing) (s : List ℕ) (f : List Mark) (j l : ℕ) → ArePlaces p s → StandsFor (length p.items) s f → length f ≡ length p.items → j < length p.items →
+one_more : (p : Clearing) (s : List ℕ) (f : List Mark) (j l : ℕ) → ArePlaces p s → AreMarksOf (length p.items) s f → length f ≡ length p.items → j < length p.items →
     mark f j ≡ Left → booked p (j ∷ s) l ≡ held p (set f j Chosen) l
 one_more p s f j l places stands size within left =
     omega (arith, ints, stands_held p s f l places stands, held_chosen p f j l size within left)
 
-pub adds : (p : Clearing) (s : List ℕ) (f : List Mark) (j : ℕ) → ArePlaces p s → StandsFor (length p.items) s f → length f ≡ length p.items → j < length p.items →
+pub adds : (p : Clearing) (s : List ℕ) (f : List Mark) (j : ℕ) → ArePlaces p s → AreMarksOf (length p.items) s f → length f ≡ length p.items → j < length p.items →
     mark f j ≡ Left → IsCovered p (set f j Chosen) → CanAddOne p s
 adds p s f j places stands size within left covered = record {
   place = j;
@@ -89,7 +89,7 @@ adds p s f j places stands size within left covered = record {
       (λ l. one_more p s f j l places stands size within left) covered;
 }
 
-pub added : (p : Clearing) (s : List ℕ) (f : List Mark) → ArePlaces p s → StandsFor (length p.items) s f → length f ≡ length p.items →
+pub added : (p : Clearing) (s : List ℕ) (f : List Mark) → ArePlaces p s → AreMarksOf (length p.items) s f → length f ≡ length p.items →
     (can : CanAddOne p s) → IsCovered p (set f can.place Chosen)
 added p s f places stands size can =
     let left : mark f can.place ≡ Left = stands.left can.place can.in_range can.outside in
@@ -126,7 +126,7 @@ without_sum g i (x ∷ xs) rising there = elim (eqb_tells x i) as (λ _. sum_ove
 ]
 
 -- one place for another
-exchanged : (p : Clearing) (s : List ℕ) (f : List Mark) (i j l : ℕ) → ArePlaces p s → StandsFor (length p.items) s f → length f ≡ length p.items →
+exchanged : (p : Clearing) (s : List ℕ) (f : List Mark) (i j l : ℕ) → ArePlaces p s → AreMarksOf (length p.items) s f → length f ≡ length p.items →
     i < length p.items → j < length p.items → Contains s i → mark (set f i Left) j ≡ Left → length (set f i Left) ≡ length p.items →
     booked p (j ∷ without i s) l ≡ held p (set (set f i Left) j Chosen) l
 exchanged p s f i j l places stands size within inside there left still =
@@ -140,12 +140,12 @@ exchanged p s f i j l places stands size within inside there left still =
       held_chosen p (set f i Left) j l still inside left,
     )
 
-exchange_decided : (p : Clearing) (s : List ℕ) (f : List Mark) (i j : ℕ) → StandsFor (length p.items) s f → length f ≡ length p.items → length (set f i Left) ≡ length p.items →
+exchange_decided : (p : Clearing) (s : List ℕ) (f : List Mark) (i j : ℕ) → AreMarksOf (length p.items) s f → length f ≡ length p.items → length (set f i Left) ≡ length p.items →
     AreDecided p (set (set f i Left) j Chosen)
 exchange_decided p s f i j stands size still =
     decided_set p (set f i Left) j Chosen still (chosen_or Chosen refl) (decided_set p f i Left size (left_or Left refl) (stands_decided p s f stands))
 
-pub swaps : (p : Clearing) (s members : List ℕ) (f : List Mark) (i : ℕ) → ArePlaces p s → StandsFor (length p.items) s f → length f ≡ length p.items →
+pub swaps : (p : Clearing) (s members : List ℕ) (f : List Mark) (i : ℕ) → ArePlaces p s → AreMarksOf (length p.items) s f → length f ≡ length p.items →
     length (set f i Left) ≡ length p.items → i < length p.items → All (λ j. j < length p.items) members → Contains members i → mark f i ≡ Chosen →
     HasBetter p (set f i Left) members i → CanSwap p s members
 swaps p s members f i places stands size still within inside member chosen better =
@@ -165,7 +165,7 @@ swaps p s members f i places stands size still within inside member chosen bette
           (λ l. exchanged p s f i better.place l places stands size within range there better.left still) better.covered;
     }
 
-pub swapped : (p : Clearing) (s members : List ℕ) (f : List Mark) → ArePlaces p s → StandsFor (length p.items) s f → length f ≡ length p.items →
+pub swapped : (p : Clearing) (s members : List ℕ) (f : List Mark) → ArePlaces p s → AreMarksOf (length p.items) s f → length f ≡ length p.items →
     All (λ j. j < length p.items) members → (can : CanSwap p s members) → length (set f can.given Left) ≡ length p.items →
     HasBetter p (set f can.given Left) members can.given
 swapped p s members f places stands size inside can still =

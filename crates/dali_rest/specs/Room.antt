@@ -13,7 +13,7 @@ pub record IsRoomOf (p : Clearing) (k : Kept) : Type 0 where
   pub members : (j : ℕ) → j < length p.items → mark k.marks j ≢ Stranger
 
 -- the marks stand for s: its places below n are chosen, and the others are left
-pub record StandsFor (n : ℕ) (s : List ℕ) (f : List Mark) : Type 0 where
+pub record AreMarksOf (n : ℕ) (s : List ℕ) (f : List Mark) : Type 0 where
   pub chosen : (j : ℕ) → Contains s j → mark f j ≡ Chosen
   pub left : (j : ℕ) → j < n → ¬ (Contains s j) → mark f j ≡ Left
 

@@ -5,7 +5,7 @@ ghost use Rattle.dali_problem.specs.Feasible.{ArePlaces};
 ghost use Rattle.dali_problem.specs.Limits.{IsProblem};
 ghost use Rattle.dali_problem.specs.Partial.{mark};
 ghost use Rattle.dali_problem.specs.Rules.{is_short};
-ghost use Rattle.dali_rest.specs.Room.{IsRoomOf, StandsFor};
+ghost use Rattle.dali_rest.specs.Room.{IsRoomOf, AreMarksOf};
 
 use dali_base::{OutOfMemory, Places};
 use dali_problem::{Mark, Partial, Problem};
@@ -78,7 +78,7 @@ impl Room {
         requires room { IsRoomOf problem.now self.old }
         requires set { All (λ j. j < length problem.now.items) set.now }
         ensures room { IsRoomOf problem.now self.new }
-        ensures stands { StandsFor (length problem.now.items) set.now self.new.marks }
+        ensures stands { AreMarksOf (length problem.now.items) set.now self.new.marks }
     {
         for place in 0..problem.items() {
             self.leave(problem, place);

@@ -5,10 +5,11 @@ use Rattle.dali_problem.specs.declared.mark.Mark.TheVariants.{Stranger, Undecide
 use Rattle.dali_problem.specs.Clearing.{Clearing}
 use Rattle.dali_problem.specs.Partial.{mark}
 use Rattle.dali_problem.proofs.SetLaws.{is_in}
+use Rattle.dali_problem.specs.Feasible.{has}
 use Rattle.dali_tree.specs.declared.choice.Part.{Part}
 use Rattle.dali_tree.specs.Fits.{AreRising, PartFits}
 use Rattle.dali_tree.specs.Range.{IsPartInRange}
-use Rattle.dali_check.specs.Sides.{has, opened}
+use Rattle.dali_check.specs.Sides.{opened}
 use Rattle.dali_check.specs.Proves.{proves_part}
 use Rattle.dali_check.specs.Lean.{lean_tree, tight_tree, lean_part}
 use Rattle.dali_check.proofs.Entering.{has_of, contains_has, opened_at, opened_length, opened_past}

@@ -9,7 +9,7 @@ use Rattle.dali_base.specs.Limits.{most_bound}
 use Rattle.dali_problem.specs.Sums.{sum_below, pick}
 use Rattle.dali_problem.specs.Clearing.{Clearing, worth}
 use Rattle.dali_problem.specs.Limits.{IsProblem}
-use Rattle.dali_problem.specs.Feasible.{ArePlaces, value_of}
+use Rattle.dali_problem.specs.Feasible.{ArePlaces, value_of, has}
 use Rattle.dali_problem.proofs.SumLaws.{sum_below_same}
 use Rattle.dali_problem.proofs.SetLaws.{is_in, value_in}
 use Rattle.dali_problem.proofs.Values.{value_within}
@@ -22,7 +22,6 @@ use Rattle.dali_rest.specs.Addable.{CanAddRest}
 use Rattle.dali_rest.specs.Swappable.{CanSwap}
 use Rattle.dali_reduce.specs.Reduced.{undecided_count}
 use Rattle.dali_greedy.specs.Grown.{IsGrown}
-use Rattle.dali_check.specs.Sides.{has}
 use Rattle.dali_check.specs.Proves.{proves_part}
 use Rattle.dali_check.specs.Lean.{lean_tree, tight_tree, lean_part}
 use Rattle.dali_check.specs.Parts.{changes, ArePartition, value_in_part, bound_of, branchings_of}

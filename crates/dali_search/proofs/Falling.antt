@@ -11,7 +11,7 @@ use Rattle.dali_problem.proofs.RuleTests.{undecided_is}
 use Rattle.dali_problem.proofs.SumLaws.{sum_below_le}
 use Rattle.dali_tree.specs.declared.fix.Fix.{Fix}
 use Rattle.dali_tree.specs.declared.fix.Fix.TheVariants.{Barred, Needed, Safe}
-use Rattle.dali_lagrange.specs.Bound.{reduced, sum_of, counted}
+use Rattle.dali_lagrange.specs.Bound.{reduced, sum_of, count_of}
 use Rattle.dali_lagrange.specs.Multipliers.{multiplier}
 use Rattle.dali_lagrange.proofs.Whole.{lines_and_places}
 use Rattle.dali_lagrange.proofs.SettledLaws.{lt_decides, le_decides}
@@ -37,18 +37,18 @@ unfolding reaches
 reaches_from p u lam f less = (le_decides (pos (4096 * u)) (sum_of p f (multiplier lam))).1 less
 
 -- a place counts at most what it counts undecided
-counted_open : (m : Mark) (z : ℤ) → counted m z ≤ℤ counted Undecided z
+counted_open : (m : Mark) (z : ℤ) → count_of m z ≤ℤ count_of Undecided z
 counted_open Stranger z = omega (arith, ints, clamps)
 counted_open Undecided z = omega (arith, ints, clamps)
 counted_open Chosen z = omega (arith, ints, clamps)
 counted_open Left z = omega (arith, ints, clamps)
 
-counted_set : (f : List Mark) (j i : ℕ) (m : Mark) (z : ℤ) → mark f j ≡ Undecided → counted (mark (set f j m) i) z ≤ℤ counted (mark f i) z
-counted_set f j i m z was = elim (cases_eq i j) as (λ _. counted (mark (set f j m) i) z ≤ℤ counted (mark f i) z) [
+counted_set : (f : List Mark) (j i : ℕ) (m : Mark) (z : ℤ) → mark f j ≡ Undecided → count_of (mark (set f j m) i) z ≤ℤ count_of (mark f i) z
+counted_set f j i m z was = elim (cases_eq i j) as (λ _. count_of (mark (set f j m) i) z ≤ℤ count_of (mark f i) z) [
   | inl here ↦
-      subst (λ (n : Mark). counted (mark (set f j m) i) z ≤ℤ counted n z) (sym (ap (mark f) here ∙ was)) (counted_open (mark (set f j m) i) z)
+      subst (λ (n : Mark). count_of (mark (set f j m) i) z ≤ℤ count_of n z) (sym (ap (mark f) here ∙ was)) (counted_open (mark (set f j m) i) z)
   | inr other ↦
-      let same : counted (mark (set f j m) i) z ≡ counted (mark f i) z = ap (λ (n : Mark). counted n z) (get_or-set_other f j i m Stranger other) in
+      let same : count_of (mark (set f j m) i) z ≡ count_of (mark f i) z = ap (λ (n : Mark). count_of n z) (get_or-set_other f j i m Stranger other) in
       omega (arith, ints, same)
 ]
 
@@ -57,7 +57,7 @@ pub sum_falls : (p : Clearing) (f : List Mark) (j : ℕ) (m : Mark) (lam : ℕ �
 sum_falls p f j m lam was =
     let before = lines_and_places p f lam in
     let behind = lines_and_places p (set f j m) lam in
-    let each = sum_below_le (λ i. counted (mark (set f j m) i) (reduced p lam i)) (λ i. counted (mark f i) (reduced p lam i)) (length p.items)
+    let each = sum_below_le (λ i. count_of (mark (set f j m) i) (reduced p lam i)) (λ i. count_of (mark f i) (reduced p lam i)) (length p.items)
     (λ i below. counted_set f j i m (reduced p lam i) was) in
     omega (arith, ints, before, behind, each)
 

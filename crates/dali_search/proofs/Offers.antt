@@ -15,7 +15,7 @@ use Rattle.dali_problem.proofs.SetLaws.{is_in, is_in_of, value_in}
 use Rattle.dali_problem.proofs.Values.{value_within}
 use Rattle.dali_rest.specs.Swaps.{AreDecided}
 use Rattle.dali_rest.proofs.Sides.{short_decided, nonneg_of}
-use Rattle.dali_lagrange.specs.Bound.{sum_of, counted}
+use Rattle.dali_lagrange.specs.Bound.{sum_of, count_of}
 use Rattle.dali_lagrange.proofs.Regroup.{pick_scale}
 use Rattle.dali_lagrange.proofs.Zero.{zero_sum_is}
 use Rattle.dali_check.specs.Lean.{is_open}
@@ -41,7 +41,7 @@ decided_all p f told = record {
 }
 
 -- what a decided place counts, a set that agrees has
-counted_in : (m : Mark) (b : Bool) (z : ℤ) → is_undecided m ≡ false → (m ≡ Chosen → b ≡ true) → pos 0 ≤ℤ z → counted m z ≤ℤ pick b z
+counted_in : (m : Mark) (b : Bool) (z : ℤ) → is_undecided m ≡ false → (m ≡ Chosen → b ≡ true) → pos 0 ≤ℤ z → count_of m z ≤ℤ pick b z
 counted_in Chosen b z decided chosen up =
     let taken : pick b z ≡ z = ap (λ c. pick c z) (chosen refl) in
     omega (arith, ints, taken)
@@ -54,7 +54,7 @@ counted_in Left false z decided chosen up = omega (arith, ints)
 -- where all is decided, a set that agrees is worth all that is chosen
 pub grown_offers : (p : Clearing) (f : List Mark) (s : List ℕ) → is_open p f ≡ false → ArePlaces p s → Agrees f s → sum_of p f (λ _. 0) ≤ℤ pos (4096 * value_of p s)
 grown_offers p f s closed places agrees =
-    let each = sum_below_le (λ j. counted (mark f j) (pos 4096 *ℤ pos (worth p j))) (λ j. pick (is_in j s) (pos 4096 *ℤ pos (worth p j))) (length p.items)
+    let each = sum_below_le (λ j. count_of (mark f j) (pos 4096 *ℤ pos (worth p j))) (λ j. pick (is_in j s) (pos 4096 *ℤ pos (worth p j))) (length p.items)
     (λ j below. counted_in (mark f j) (is_in j s) (pos 4096 *ℤ pos (worth p j)) (none_open p f j closed below)
     (λ chosen. is_in_of s j (agrees.chosen j chosen)) (omega (arith, ints))) in
     let scale = sum_below_scale (pos 4096) (λ j. pick (is_in j s) (pos (worth p j))) (length p.items) in
@@ -75,7 +75,7 @@ pub offered_more : (p : Clearing) (f : List Mark) (v w : ℕ) → v ≤ w → su
 offered_more p f v w more told = omega (arith, ints, more, told)
 
 -- with all multipliers 0 the Sum is at most what all items are worth
-counted_all : (m : Mark) (z : ℤ) → pos 0 ≤ℤ z → counted m z ≤ℤ z
+counted_all : (m : Mark) (z : ℤ) → pos 0 ≤ℤ z → count_of m z ≤ℤ z
 counted_all Chosen z up = omega (arith, ints)
 counted_all Undecided z up = omega (arith, ints, clamps, up)
 counted_all Stranger z up = omega (arith, ints, up)
@@ -86,8 +86,8 @@ zero_small p f limits =
     let all : List ℕ = all_places (length p.items) in
     let are : ArePlaces p all = record { rising = (places_rise (length p.items)).rising; in_range = (places_rise (length p.items)).in_range } in
     let within = value_within p all limits are in
-    let each = sum_below_le (λ j. counted (mark f j) (pos 4096 *ℤ pos (worth p j))) (λ j. pick (is_in j all) (pos 4096 *ℤ pos (worth p j))) (length p.items)
-    (λ j below. subst (λ b. counted (mark f j) (pos 4096 *ℤ pos (worth p j)) ≤ℤ pick b (pos 4096 *ℤ pos (worth p j))) (sym (in_all (length p.items) j below))
+    let each = sum_below_le (λ j. count_of (mark f j) (pos 4096 *ℤ pos (worth p j))) (λ j. pick (is_in j all) (pos 4096 *ℤ pos (worth p j))) (length p.items)
+    (λ j below. subst (λ b. count_of (mark f j) (pos 4096 *ℤ pos (worth p j)) ≤ℤ pick b (pos 4096 *ℤ pos (worth p j))) (sym (in_all (length p.items) j below))
     (counted_all (mark f j) (pos 4096 *ℤ pos (worth p j)) (omega (arith, ints)))) in
     let scale = sum_below_scale (pos 4096) (λ j. pick (is_in j all) (pos (worth p j))) (length p.items) in
     let picks = sum_below_same (λ j. pos 4096 *ℤ pick (is_in j all) (pos (worth p j)))

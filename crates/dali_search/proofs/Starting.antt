@@ -8,11 +8,10 @@ use Rattle.std.proofs.lemmas.List.Elements.{All-from_get_or}
 use Rattle.dali_problem.specs.declared.mark.Mark.{Mark}
 use Rattle.dali_problem.specs.declared.mark.Mark.TheVariants.{Stranger, Undecided, Chosen, Left}
 use Rattle.dali_problem.specs.Clearing.{Clearing}
-use Rattle.dali_problem.specs.Feasible.{ArePlaces, IsFeasible}
+use Rattle.dali_problem.specs.Feasible.{ArePlaces, IsFeasible, has}
 use Rattle.dali_problem.specs.Partial.{mark, is_undecided, Agrees}
 use Rattle.dali_tree.specs.Fits.{AreRising}
 use Rattle.dali_rest.specs.Room.{undecided_below}
-use Rattle.dali_check.specs.Sides.{has}
 use Rattle.dali_check.proofs.Entering.{has_of, opened_at, opened_length, opened_past}
 use Rattle.dali_search.specs.Start.{all_places, start_of}
 

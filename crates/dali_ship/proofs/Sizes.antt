@@ -14,6 +14,7 @@ use Rattle.dali_base.specs.Limits.{most_fixes}
 use Rattle.dali_line.specs.Commands.{is_command}
 use Rattle.dali_line.specs.Line.{MOST_OF_COMMAND}
 use Rattle.dali_problem.specs.Clearing.{Clearing}
+use Rattle.dali_problem.specs.Feasible.{has}
 use Rattle.dali_tree.specs.declared.tree.Tree.{Tree}
 use Rattle.dali_tree.specs.declared.tree.End.{End}
 use Rattle.dali_tree.specs.declared.tree.End.TheOpen.{Tree-F, End-F}
@@ -23,7 +24,6 @@ use Rattle.dali_tree.specs.declared.choice.Part.{Part}
 use Rattle.dali_tree.specs.declared.choice.Choice.{Choice}
 use Rattle.dali_tree.specs.Fits.{fix_fits, lam_fits, end_fits, tree_fits, AreRising}
 use Rattle.dali_entry.specs.EntryRecord.{EntryRecord}
-use Rattle.dali_check.specs.Sides.{has}
 use Rattle.dali_check.specs.Allowed.{Allowed}
 use Rattle.dali_check.proofs.Certified.{certified}
 use Rattle.dali_check.proofs.Entering.{has_at}

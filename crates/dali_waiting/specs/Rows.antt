@@ -1,6 +1,6 @@
 use Rattle.std.specs.Prelude.{ℕ, ◌||◌, Bool, List, map}
 use Rattle.std.specs.List.{filter}
-use Rattle.dali_account.specs.Book.{same_name}
+use Rattle.dali_base.specs.Readers.{same_bytes}
 use Rattle.dali_queue.specs.declared.instruction.Instruction.{Instruction}
 use Rattle.dali_queue.specs.Queue.{QueueRecord}
 use Rattle.dali_waiting.specs.declared.rows.WaitRow.{WaitRow}
@@ -18,7 +18,7 @@ waiting_rows q = map row_of (items_of q)
 
 -- whether the account gives or takes
 abbrev pub is_party : List ℕ → Instruction → Bool
-is_party account i = same_name account i.giver || same_name account i.taker
+is_party account i = same_bytes account i.giver || same_bytes account i.taker
 
 abbrev pub held_ids : QueueRecord → List ℕ → List (List ℕ)
 held_ids q account = map (λ (i : Instruction). i.id) (filter (is_party account) (items_of q))

@@ -2,7 +2,8 @@ ghost use Rattle.std.specs.Prelude.{◌≡◌, ◌≢◌, ℕ, ◌&&◌, ◌==�
 ghost use Rattle.std.specs.BTreeMap.{get};
 ghost use Rattle.std.specs.Cmp.Lexicographic.{slice_cmp};
 ghost use Rattle.std.specs.Ordering.{nat_cmp};
-ghost use Rattle.dali_account.specs.Book.{same_name, has_account, balance_of};
+ghost use Rattle.dali_base.specs.Readers.{same_bytes};
+ghost use Rattle.dali_account.specs.Book.{has_account, balance_of};
 ghost use Rattle.dali_account.specs.Pairs.{pairs_of};
 ghost use Rattle.dali_account.specs.Units.{HasNoZero, some_units};
 
@@ -50,7 +51,7 @@ impl Book {
 
 /// Puts the balance under the asset, unless it is 0.
 fn put(held: &mut BTreeMap<Name, u64>, asset: Name, balance: u64) -> Result<(), OutOfMemory>
-    ensures { OnOk result ((other : List ℕ) → get (slice_cmp nat_cmp) held.new other ≡ (if same_name asset other && not (balance == 0) then Some balance else get (slice_cmp nat_cmp) held.old other)) }
+    ensures { OnOk result ((other : List ℕ) → get (slice_cmp nat_cmp) held.new other ≡ (if same_bytes asset other && not (balance == 0) then Some balance else get (slice_cmp nat_cmp) held.old other)) }
 {
     if balance != 0 {
         held.insert(asset, balance)?;

@@ -1,9 +1,10 @@
 ghost use Rattle.std.specs.Prelude.{◌≡◌, ℕ, ◌+◌, ◌<◌, ◌≤◌, ◌^◌, List, pos, ◌+ℤ◌, ◌≤ℤ◌, All, IsTrue, length, if◌then◌else◌};
 ghost use Rattle.std.specs.Int.{FitsUnsigned, w64};
 ghost use Rattle.dali_base.specs.Limits.{most_total};
+ghost use Rattle.dali_base.specs.Readers.{same_bytes};
 ghost use Rattle.dali_account.specs.Units.{units_of};
 ghost use Rattle.dali_account.specs.AssetList.{prices, total_at};
-ghost use Rattle.dali_account.specs.Book.{same_name, has_asset, knows_pair, held, total_of};
+ghost use Rattle.dali_account.specs.Book.{has_asset, knows_pair, held, total_of};
 ghost use Rattle.dali_account.specs.Net.{pair_of, after_move, with_move, with_net, asset_delta};
 
 use crate::assets::Assets;
@@ -45,7 +46,7 @@ fn add_move(balances: &mut Holdings, assets: &mut Assets, item: &Move)
     // what is booked
     ensures balances { balances.new.units ≡ with_move balances.old.units item.now }
     ensures room { balances.old.spare ≤ balances.new.spare + 1 }
-    ensures totals { (other : List ℕ) → total_at assets.new other ≡ (if same_name other item.now.asset then after_move (total_at assets.old item.now.asset) item.now.delta else total_at assets.old other) }
+    ensures totals { (other : List ℕ) → total_at assets.new other ≡ (if same_bytes other item.now.asset then after_move (total_at assets.old item.now.asset) item.now.delta else total_at assets.old other) }
 
     // what stays
     ensures prices { prices assets.new.listings ≡ prices assets.old.listings }

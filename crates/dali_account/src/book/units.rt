@@ -1,6 +1,7 @@
 ghost use Rattle.std.specs.Prelude.{◌≡◌, ◌≢◌, ℕ, ◌+◌, ◌<◌, ◌≤◌, List, ◌&&◌, is_ok, if◌then◌else◌, Err, IsTrue, IsOk, IsOkUnless, OnOk, OnErr};
 ghost use Rattle.dali_base.specs.Limits.{most_total};
-ghost use Rattle.dali_account.specs.Book.{same_name, knows_pair, balance_of, earmark_of, total_of, with_pair, issued, drawn, after_earmark, after_release};
+ghost use Rattle.dali_base.specs.Readers.{same_bytes};
+ghost use Rattle.dali_account.specs.Book.{knows_pair, balance_of, earmark_of, total_of, with_pair, issued, drawn, after_earmark, after_release};
 ghost use Rattle.dali_account.specs.Refusals.{Answers, issue_refusal, draw_refusal, release_refusal};
 
 use crate::book::Book;
@@ -185,7 +186,7 @@ impl Book {
         // what is booked
         ensures memory { IsOkUnless result BookNo.OutOfMemory }
         ensures ok { OnOk result (self.new.book ≡ with_pair self.old.book account asset next.balance next.earmark) }
-        ensures totals { (other : List ℕ) → total_of self.new.book other ≡ (if is_ok result && same_name other asset then next.total else total_of self.old.book other) }
+        ensures totals { (other : List ℕ) → total_of self.new.book other ≡ (if is_ok result && same_bytes other asset then next.total else total_of self.old.book other) }
 
         // want of memory, and what was taken in advance
         ensures spare { 0 < self.old.spare_lines → IsOk result }
@@ -216,7 +217,7 @@ impl Book {
         // what is booked
         ensures memory { IsOkUnless result BookNo.OutOfMemory }
         ensures ok { OnOk result (self.new.book ≡ with_pair self.old.book account asset next.balance next.earmark) }
-        ensures totals { (other : List ℕ) → total_of self.new.book other ≡ (if is_ok result && same_name other asset then next.total else total_of self.old.book other) }
+        ensures totals { (other : List ℕ) → total_of self.new.book other ≡ (if is_ok result && same_bytes other asset then next.total else total_of self.old.book other) }
 
         // want of memory, and what was taken in advance
         ensures spare { 0 < self.old.spare_lines → IsOk result }
@@ -247,7 +248,7 @@ impl Book {
 
         // what is booked
         ensures book { self.new.book ≡ with_pair self.old.book account asset next.balance next.earmark }
-        ensures totals { (other : List ℕ) → total_of self.new.book other ≡ (if same_name other asset then next.total else total_of self.old.book other) }
+        ensures totals { (other : List ℕ) → total_of self.new.book other ≡ (if same_bytes other asset then next.total else total_of self.old.book other) }
 
         // what stays
         ensures room { self.new.spare_lines ≡ self.old.spare_lines }

@@ -1,7 +1,7 @@
 ghost use Rattle.std.specs.Prelude.{◌≡◌, ℕ, ◌+◌, ◌≤◌, List, Option, Some};
 ghost use Rattle.dali_tree.specs.declared.choice.Choice.{Choice};
 ghost use Rattle.dali_machine.specs.Kept.{IsMachine};
-ghost use Rattle.dali_machine.specs.Step.{counted, turn, step};
+ghost use Rattle.dali_machine.specs.Step.{one_command_more, turn, step};
 ghost use Rattle.dali_machine.specs.Outcomes.{IsReported};
 ghost use Rattle.dali_machine.specs.Refused.{LeavesAll, IsAnswered};
 ghost use Rattle.dali_machine.specs.Totals.{KeepsTotals};
@@ -25,7 +25,7 @@ impl State {
 
         // what is answered, and the state then
         ensures outcome { result ≡ ready.outcome }
-        ensures next { self.new.machine ≡ (turn (counted self.old.machine) ready.judged (cycle_in ready.outcome)).next }
+        ensures next { self.new.machine ≡ (turn (one_command_more self.old.machine) ready.judged (cycle_in ready.outcome)).next }
         ensures reported { IsReported result }
         ensures counted { self.new.machine.commands ≡ self.old.machine.commands + 1 }
 
@@ -44,7 +44,7 @@ impl State {
     fn take_turn(&mut self, ready: Ready) -> Outcome
         requires { CanCommit self.old ready }
         ensures outcome { result ≡ ready.outcome }
-        ensures next { self.new.machine ≡ (turn (counted self.old.machine) ready.judged (cycle_in ready.outcome)).next }
+        ensures next { self.new.machine ≡ (turn (one_command_more self.old.machine) ready.judged (cycle_in ready.outcome)).next }
         ensures kept { IsMachine self.old.machine }
         ensures answered { IsAnswered ready.judged ready.outcome }
         ensures reported { IsReported ready.outcome }

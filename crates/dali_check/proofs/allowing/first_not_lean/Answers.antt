@@ -1,8 +1,7 @@
 use Rattle.std.proofs.Common.{◌≡◌, ℕ, Bool, true, false, List, get_or, subst}
 use Rattle.std.specs.List.{All, filter}
-use Rattle.dali_problem.specs.Feasible.{value_of}
+use Rattle.dali_problem.specs.Feasible.{value_of, has}
 use Rattle.dali_tree.specs.declared.choice.Part.{Part}
-use Rattle.dali_check.specs.Sides.{has}
 use Rattle.dali_check.specs.Lean.{lean_part}
 use Rattle.dali_check.specs.Parts.{value_in_part}
 use Rattle.dali_check.specs.Allowed.{FirstFails}

@@ -1,5 +1,5 @@
 use Rattle.std.proofs.Common.{◌≡◌, ℕ, false, ◌||◌, take, get_or}
-use Rattle.dali_check.specs.Sides.{has}
+use Rattle.dali_problem.specs.Feasible.{has}
 use Rattle.dali_check.proofs.apart.mark_all.Given as goal
 
 abbrev pub invariant-loop-number : goal.invariant-loop-number

@@ -1,7 +1,7 @@
 use Rattle.std.proofs.Common.{◌≡◌, ℕ, Bool, true, false, ◌&&◌, not, List, get_or, refl, ap, sym, ◌∙◌}
 use Rattle.std.specs.Bool.{Decides}
 use Rattle.std.specs.List.{list_all}
-use Rattle.dali_check.specs.Sides.{has}
+use Rattle.dali_problem.specs.Feasible.{has}
 use Rattle.dali_check.proofs.Parting.{free_decides}
 use Rattle.dali_check.proofs.apart.mark_places.Goals as goal
 

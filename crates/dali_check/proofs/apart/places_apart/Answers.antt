@@ -1,7 +1,7 @@
 use Rattle.std.proofs.Common.{◌≡◌, true, false, get_or, refl, sym, ◌∙◌, subst}
 use Rattle.std.proofs.lemmas.List.{take_all}
+use Rattle.dali_problem.specs.Feasible.{has}
 use Rattle.dali_tree.specs.declared.choice.Part.{Part}
-use Rattle.dali_check.specs.Sides.{has}
 use Rattle.dali_check.proofs.Parting.{Apart, apart_step, apart_more, apart_none}
 use Rattle.dali_check.proofs.apart.places_apart.Goals as goal
 

@@ -1,6 +1,6 @@
 use Rattle.std.proofs.Common.{◌≡◌, ℕ, false, take, get_or}
+use Rattle.dali_problem.specs.Feasible.{has}
 use Rattle.dali_tree.specs.declared.choice.Part.{Part}
-use Rattle.dali_check.specs.Sides.{has}
 use Rattle.dali_check.specs.Parts.{some_has}
 use Rattle.dali_check.proofs.Parting.{Apart}
 use Rattle.dali_check.proofs.apart.places_apart.Given as goal

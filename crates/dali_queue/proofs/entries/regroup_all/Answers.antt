@@ -3,7 +3,7 @@ use Rattle.std.specs.Prelude.{slice_get}
 use Rattle.std.specs.Map.{values_of}
 use Rattle.indexmap.specs.IndexMap.{spare}
 use Rattle.indexmap.specs.Layout.{set_value_at}
-use Rattle.dali_account.specs.Book.{same_name}
+use Rattle.dali_base.specs.Readers.{same_bytes}
 use Rattle.dali_queue.specs.declared.entries.Entry.{Entry}
 use Rattle.dali_queue.specs.EntryList.{regrouped_entry}
 use Rattle.dali_queue.proofs.ChangeLemmas.{regrouped_yes, regrouped_no}
@@ -26,7 +26,7 @@ loop-place-preserved c =
           let is : c.index.result.now ≡ w.index_mut.result.now = cc in
           record {
             entries = ap (λ m. m.entries) w.entries-is ∙ ap (λ xs. set_value_at xs k (record w.index_mut.result.now { group = c.args.to })) c.loop-place.invariant.entries
-                ∙ regrouped_yes c.args.from c.args.to es k w.index_mut.result.now at (ap (λ (e : Entry). same_name c.args.from e.group) (sym is) ∙ sym c.eq.ensures ∙ w.if-eq.true) ∙ next;
+                ∙ regrouped_yes c.args.from c.args.to es k w.index_mut.result.now at (ap (λ (e : Entry). same_bytes c.args.from e.group) (sym is) ∙ sym c.eq.ensures ∙ w.if-eq.true) ∙ next;
             room = ap spare w.entries-is ∙ c.loop-place.invariant.room;
           }
       | else-eq w ↦ record {

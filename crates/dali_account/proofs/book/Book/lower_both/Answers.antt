@@ -1,5 +1,6 @@
 use Rattle.std.proofs.Common.{◌≡◌, ◌+◌, ◌∙◌, cond, sym, ap, subst, true}
-use Rattle.dali_account.specs.Book.{BookState, same_name, has_account, has_asset, knows_pair, balance_of, earmark_of, total_of}
+use Rattle.dali_base.specs.Readers.{same_bytes}
+use Rattle.dali_account.specs.Book.{BookState, has_account, has_asset, knows_pair, balance_of, earmark_of, total_of}
 use Rattle.dali_account.specs.AssetList.{prices}
 use Rattle.dali_account.proofs.SumLemmas.{first_true}
 use Rattle.dali_account.proofs.KeptLemmas.{kept_moved, total_moved}
@@ -24,4 +25,4 @@ returns-clause-totals c other =
     rw (c.lower.ensures.units, c.lower-2.ensures.units)
     (total_moved c.self.inside.accounts.names c.self.inside.assets c.set_total.new.self c.self.inside.balances.units c.self.inside.earmarks.units c.args.account c.args.asset c.args.next.balance c.args.next.earmark c.args.next.total
     c.self.invariant there c.set_total.ensures.prices c.set_total.ensures.totals moved c.requires.limit other
-    ∙ ap (λ (s : BookState). cond (same_name other c.args.asset) c.args.next.total (total_of s.book other)) c.self.view_is)
+    ∙ ap (λ (s : BookState). cond (same_bytes other c.args.asset) c.args.next.total (total_of s.book other)) c.self.view_is)

@@ -1,7 +1,7 @@
 use Rattle.std.proofs.Common.{◌≡◌, ℕ, ◌<◌, length, take}
 use Rattle.dali_problem.specs.declared.mark.Mark.TheVariants.{Left}
 use Rattle.dali_problem.specs.Partial.{mark}
-use Rattle.dali_rest.specs.Room.{StandsFor}
+use Rattle.dali_rest.specs.Room.{AreMarksOf}
 use Rattle.dali_greedy.specs.Standing.{IsStandOf}
 use Rattle.dali_greedy.proofs.stand.Stand.become_set.Given as goal
 
@@ -14,5 +14,5 @@ invariant-loop-place l = record {
 abbrev pub invariant-loop-chosen : goal.invariant-loop-chosen
 invariant-loop-chosen l = record {
   of : IsStandOf l.problem l.self;
-  stands : StandsFor (length l.problem.items) (take l.chosen-index l.places) l.self.marks;
+  stands : AreMarksOf (length l.problem.items) (take l.chosen-index l.places) l.self.marks;
 }

@@ -4,7 +4,7 @@ use Rattle.std.proofs.lemmas.List.{get_or_read}
 use Rattle.dali_problem.specs.declared.mark.Mark.{Mark}
 use Rattle.dali_problem.specs.declared.mark.Mark.TheVariants.{Stranger}
 use Rattle.dali_problem.specs.Partial.{mark}
-use Rattle.dali_lagrange.specs.Bound.{counted}
+use Rattle.dali_lagrange.specs.Bound.{count_of}
 use Rattle.dali_lagrange.specs.KeptSum.{KeptSum, IsSumOf}
 use Rattle.dali_lagrange.specs.KeptSumLayout.{view_of}
 use Rattle.dali_lagrange.specs.Touched.{reduced_in}
@@ -19,9 +19,9 @@ returns-clause-of c =
     let placed : c.args.place < length c.self.inside.reduced.items = omega (arith, of.places, c.requires.place) in
     let from : c.index.result.now ≡ mark c.self.inside.marks.items c.args.place = get_or_read c.self.inside.marks.items c.args.place c.index.result.now marked c.index.ensures Stranger in
     let worth : c.index-2.result.now ≡ reduced_in c.self.inside.reduced.items c.args.place = get_or_read c.self.inside.reduced.items c.args.place c.index-2.result.now placed c.index-2.ensures (pos 0) in
-    let up = ap (counted c.args.to) worth in
-    let down = ap (λ (m : Mark). counted m c.index-2.result.now) from in
-    let down_worth = ap (counted (mark c.self.inside.marks.items c.args.place)) worth in
+    let up = ap (count_of c.args.to) worth in
+    let down = ap (λ (m : Mark). count_of m c.index-2.result.now) from in
+    let down_worth = ap (count_of (mark c.self.inside.marks.items c.args.place)) worth in
     turned c.args.problem.now k c.args.place c.args.to c.recount.new.total of c.requires.place
     (omega (arith, ints, c.recount.ensures, up, down, down_worth))
 

@@ -4,7 +4,7 @@ use Rattle.dali_machine.specs.Cycles.{with_set}
 use Rattle.dali_machine.specs.Effects.{accepted}
 use Rattle.dali_machine.specs.Machine.{StateRecord}
 use Rattle.dali_machine.specs.StateKept.{machine_of, record_of}
-use Rattle.dali_machine.specs.Step.{at_moment, counted, turn}
+use Rattle.dali_machine.specs.Step.{at_moment, one_command_more, turn}
 use Rattle.dali_machine.specs.declared.judged.Judged.{Judged}
 use Rattle.dali_machine.specs.declared.judged.Judged.TheVariants as judgements
 use Rattle.dali_machine.specs.Ready.{CanCommit, MayTake, HasNetFor, IsSet, cycle_in}
@@ -55,26 +55,26 @@ returns-clause-next c =
     let places : c.into_parts-judged.result.4 ≡ c.args.ready.places = ap (λ p. p.4) parts in
     let outcome : c.into_parts-judged.result.1 ≡ c.args.ready.outcome = ap (λ p. p.1) parts in
     let judged : c.args.ready.judged ≡ c.into_parts-judged.result.0 = sym (ap (λ p. p.0) parts) in
-    let now : (turn (counted (machine_of c.self.inside)) c.args.ready.judged (cycle_in c.args.ready.outcome)).next ≡ (turn (counted c.args.self.now.machine) c.args.ready.judged (cycle_in c.args.ready.outcome)).next =
-    ap (λ (s : StateRecord). (turn (counted s.machine) c.args.ready.judged (cycle_in c.args.ready.outcome)).next) c.self.view_is in
+    let now : (turn (one_command_more (machine_of c.self.inside)) c.args.ready.judged (cycle_in c.args.ready.outcome)).next ≡ (turn (one_command_more c.args.self.now.machine) c.args.ready.judged (cycle_in c.args.ready.outcome)).next =
+    ap (λ (s : StateRecord). (turn (one_command_more s.machine) c.args.ready.judged (cycle_in c.args.ready.outcome)).next) c.self.view_is in
     elim c.match-judged.branch [
       | in-Form w ↦
           ap (λ (s : StateRecord). s.machine) w.self-is ∙ ap (λ n. record (machine_of c.self.inside) { commands = n }) number
-          ∙ sym (same_turn (counted (machine_of c.self.inside)) c.args.ready.judged (cycle_in c.args.ready.outcome) (early c.args.ready.judged c.into_parts-judged.result.0 judged w.in-Form.is)) ∙ now
+          ∙ sym (same_turn (one_command_more (machine_of c.self.inside)) c.args.ready.judged (cycle_in c.args.ready.outcome) (early c.args.ready.judged c.into_parts-judged.result.0 judged w.in-Form.is)) ∙ now
       | in-No w ↦
           ap (λ (s : StateRecord). s.machine) w.self-is ∙ ap (λ n. record (machine_of c.self.inside) { greatest = w.in-No.moment; commands = n }) number
-          ∙ sym (moved_turn (counted (machine_of c.self.inside)) c.args.ready.judged (cycle_in c.args.ready.outcome) w.in-No.moment w.in-No.code (judged ∙ w.in-No.is)) ∙ now
+          ∙ sym (moved_turn (one_command_more (machine_of c.self.inside)) c.args.ready.judged (cycle_in c.args.ready.outcome) w.in-No.moment w.in-No.code (judged ∙ w.in-No.is)) ∙ now
       | in-Yes+in-Cycle w ↦
           ap (λ (s : StateRecord). s.machine) w.self-is ∙ w.book_set.ensures
           ∙ ap (λ n. with_set (record (machine_of c.self.inside) { greatest = w.in-Yes.moment; commands = n }) c.into_parts-judged.result.3 c.into_parts-judged.result.4) number
-          ∙ ap (λ ms. with_set (at_moment (counted (machine_of c.self.inside)) w.in-Yes.moment) ms c.into_parts-judged.result.4) net
-          ∙ ap (with_set (at_moment (counted (machine_of c.self.inside)) w.in-Yes.moment) c.args.ready.net) places
+          ∙ ap (λ ms. with_set (at_moment (one_command_more (machine_of c.self.inside)) w.in-Yes.moment) ms c.into_parts-judged.result.4) net
+          ∙ ap (with_set (at_moment (one_command_more (machine_of c.self.inside)) w.in-Yes.moment) c.args.ready.net) places
           ∙ set_taken (record_of c.self.inside) w.in-Yes.moment w.in-Yes.verb c.args.ready (record { budget = w.in-Cycle.report.budget; choice = w.in-Cycle.report.choice }) can
           (ap cycle_in (sym outcome ∙ w.in-Cycle.is)) (judged ∙ w.in-Yes.is) ∙ now
       | in-Yes+in_default w ↦
           ap (λ (s : StateRecord). s.machine) w.self-is ∙ w.accept.ensures
           ∙ ap (λ n. accepted (record (machine_of c.self.inside) { greatest = w.in-Yes.moment; commands = n }) w.in-Yes.verb) number
-          ∙ sym (plain_turn (counted (machine_of c.self.inside)) c.args.ready.judged w.in-Yes.moment w.in-Yes.verb c.args.ready.outcome (judged ∙ w.in-Yes.is)
+          ∙ sym (plain_turn (one_command_more (machine_of c.self.inside)) c.args.ready.judged w.in-Yes.moment w.in-Yes.verb c.args.ready.outcome (judged ∙ w.in-Yes.is)
           (no_cycle_told c.args.ready.outcome (λ report told. w.in_default.not-Cycle report (outcome ∙ told)))) ∙ now
     ]
   where

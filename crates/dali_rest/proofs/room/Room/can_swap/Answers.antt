@@ -3,7 +3,7 @@ use Rattle.std.specs.List.{All}
 use Rattle.dali_problem.specs.declared.mark.Mark.{Mark}
 use Rattle.dali_problem.specs.declared.mark.Mark.TheVariants.{Left}
 use Rattle.dali_problem.specs.Kept.{Kept}
-use Rattle.dali_rest.specs.Room.{IsRoomOf, StandsFor}
+use Rattle.dali_rest.specs.Room.{IsRoomOf, AreMarksOf}
 use Rattle.dali_rest.specs.Swappable.{CanSwap}
 use Rattle.dali_rest.proofs.Standing.{stands_covered, swaps, swapped, none_more, none_at, listed_at}
 use Rattle.dali_rest.proofs.room.Room.can_swap.Goals.{else-is_chosen-via-then-is_chosen+else-has_better, else-is_chosen-via-else-is_chosen}
@@ -30,7 +30,7 @@ loop-given-preserved c = elim c.else-is_chosen.branch [
       let same : c.else-is_chosen.self.marks ≡ c.loop-given.self.marks = ap (λ (k : Kept). k.marks) w.self-is ∙ w.has_better.ensures.same in
       record {
         room = subst (IsRoomOf c.args.problem.now) (sym w.self-is) w.has_better.ensures.room;
-        stands = subst (StandsFor (length c.args.problem.now.items) c.args.set.now) (sym same) c.loop-given.invariant.stands;
+        stands = subst (AreMarksOf (length c.args.problem.now.items) c.args.set.now) (sym same) c.loop-given.invariant.stands;
         none = none_more c.args.problem.now c.loop-given.self.marks c.else-is_chosen.self.marks c.as_slice-listed.result.now c.loop-given.given-index same c.loop-given.invariant.none
             (λ chosen better. (let told = w.has_better.ensures.answer.1 better in let not_told = w.if-has_better.false in cc (told, not_told)));
       }
@@ -38,7 +38,7 @@ loop-given-preserved c = elim c.else-is_chosen.branch [
       let same : c.else-is_chosen.self.marks ≡ c.loop-given.self.marks = ap (λ (k : Kept). k.marks) w.self-is in
       record {
         room = subst (IsRoomOf c.args.problem.now) (sym w.self-is) c.loop-given.invariant.room;
-        stands = subst (StandsFor (length c.args.problem.now.items) c.args.set.now) (sym same) c.loop-given.invariant.stands;
+        stands = subst (AreMarksOf (length c.args.problem.now.items) c.args.set.now) (sym same) c.loop-given.invariant.stands;
         none = none_more c.args.problem.now c.loop-given.self.marks c.else-is_chosen.self.marks c.as_slice-listed.result.now c.loop-given.given-index same c.loop-given.invariant.none
             (λ chosen better. (let told = c.is_chosen.ensures.1 chosen in let not_told = w.if-is_chosen.false in cc (told, not_told)));
       }

@@ -1,7 +1,7 @@
 use Rattle.std.proofs.Common.{◌≡◌, ℕ, ◌<◌, length, take}
 use Rattle.dali_problem.specs.declared.mark.Mark.TheVariants.{Left}
 use Rattle.dali_problem.specs.Partial.{mark}
-use Rattle.dali_rest.specs.Room.{IsRoomOf, StandsFor}
+use Rattle.dali_rest.specs.Room.{IsRoomOf, AreMarksOf}
 use Rattle.dali_rest.proofs.room.Room.stand.Given as goal
 
 abbrev pub invariant-loop-place : goal.invariant-loop-place
@@ -13,5 +13,5 @@ invariant-loop-place l = record {
 abbrev pub invariant-loop-chosen : goal.invariant-loop-chosen
 invariant-loop-chosen l = record {
   room : IsRoomOf l.problem l.self;
-  stands : StandsFor (length l.problem.items) (take l.chosen-index l.set) l.self.marks;
+  stands : AreMarksOf (length l.problem.items) (take l.chosen-index l.set) l.self.marks;
 }
