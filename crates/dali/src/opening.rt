@@ -9,32 +9,32 @@ const STREAMS: [&str; 3] = ["/proc/self/fd/0", "/proc/self/fd/1", "/proc/self/fd
 /// The folder of these names.
 const STREAMS_FOLDER: &str = "/proc/self/fd";
 
-/// The file of this path, held by this program alone, and its size in bytes. `None` where it can't be opened for reading
-/// and writing, where another program holds it, or where it is one of the standard streams.
-pub fn open_file(files: &impl Files<File = File>, path: &str) -> Option<(File, u64)> {
+/// The file of this path, locked by this program alone, and its size in bytes. `None` where it can't be opened for reading
+/// and writing, where another program has locked it, or where it is one of the standard streams.
+pub(crate) fn open_file(files: &impl Files<File = File>, path: &str) -> Option<(File, u64)> {
     let mut how = OpenOptions::new();
     how.read(true).write(true);
     sized(files, how.open(files, path).ok()?)
 }
 
 /// The same for reading alone, so that a journal that may not be written will do.
-pub fn open_to_read(files: &impl Files<File = File>, path: &str) -> Option<(File, u64)> {
+pub(crate) fn open_to_read(files: &impl Files<File = File>, path: &str) -> Option<(File, u64)> {
     sized(files, File::open(files, path).ok()?)
 }
 
-/// The file, held by this program alone, and its size in bytes.
+/// The file, locked by this program alone, and its size in bytes.
 fn sized(files: &impl Files<File = File>, file: File) -> Option<(File, u64)> {
-    let file = held(files, file)?;
+    let file = locked(files, file)?;
     let size = file.metadata().ok()?.len();
     Some((file, size))
 }
 
-/// A new file of this path with so many bytes, held by this program alone. Its name and its size outlast a stop. `None`
+/// A new file of this path with so many bytes, locked by this program alone. Its name and its size outlast a stop. `None`
 /// where the path is there already, or where any of this fails; an empty file may then be left.
-pub fn create_file(files: &impl Files<File = File>, path: &str, size: u64) -> Option<File> {
+pub(crate) fn create_file(files: &impl Files<File = File>, path: &str, size: u64) -> Option<File> {
     let mut how = OpenOptions::new();
     how.read(true).write(true).create_new(true);
-    let file = held(files, how.open(files, path).ok()?)?;
+    let file = locked(files, how.open(files, path).ok()?)?;
     file.set_len(size).ok()?;
     file.sync_all().ok()?;
     let folder = File::open(files, folder_of(path)).ok()?;
@@ -52,7 +52,7 @@ fn folder_of(path: &str) -> &str {
 }
 
 /// The file, locked until it is closed, where it is no standard stream and nobody else has locked it.
-fn held(files: &impl Files<File = File>, file: File) -> Option<File> {
+fn locked(files: &impl Files<File = File>, file: File) -> Option<File> {
     if !is_apart(files, &file) {
         return None;
     }
