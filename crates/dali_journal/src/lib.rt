@@ -26,6 +26,3 @@ pub use limits::{MOST_PAYLOAD, MOST_PAYLOADS};
 pub use open::open_journal;
 pub use refusal::{AppendNo, Damage, DiskFault, OpenNo};
 pub use sealed::{Sealed, frame};
-
-#[cfg(test)]
-mod tests;

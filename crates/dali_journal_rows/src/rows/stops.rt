@@ -3,8 +3,8 @@
 ghost use Rattle.std.specs.Prelude.{◌≡◌, ◌⊎◌, ◌≤◌, ◌+◌, true, length, IfOk, IfSome};
 
 use super::{A, B, ISSUE, ONE, THREE, TWO, at_end, device, formatted, holds, site_of, two_more};
-use crate::{Journal, frame, open_journal};
 use dali_base::{NEWEST, OutOfMemory, Text};
+use dali_journal::{Journal, frame, open_journal};
 use dali_outside::{Faults, MemSite};
 use std::alloc::Global;
 use std::process::Abort;

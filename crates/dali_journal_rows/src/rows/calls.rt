@@ -4,8 +4,8 @@
 ghost use Rattle.std.specs.Prelude.{◌≡◌, ◌≢◌, ◌+◌, true, [], IfOk};
 
 use super::{B, ONE, device, text, two_more};
-use crate::{AppendNo, Group, Journal, OpenNo, Sealed, format, frame, open_journal};
 use dali_base::{NEWEST, OutOfMemory};
+use dali_journal::{AppendNo, Group, Journal, OpenNo, Sealed, format, frame, open_journal};
 use dali_outside::{Fault, Faults, MemSite};
 use std::alloc::Global;
 use std::test::Fail;

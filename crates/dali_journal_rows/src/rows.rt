@@ -1,7 +1,7 @@
 ghost use Rattle.std.specs.Prelude.{◌≡◌, ◌≤◌, ◌+◌, true, length, IfOk, OnOk, IfSome};
 
-use crate::{AppendNo, Damage, Group, Journal, OpenNo, format, frame, open_journal};
 use dali_base::{OutOfMemory, Text};
+use dali_journal::{AppendNo, Damage, Group, Journal, OpenNo, format, frame, open_journal};
 use dali_outside::{Faults, MemSite};
 use std::alloc::Global;
 use std::process::Abort;
