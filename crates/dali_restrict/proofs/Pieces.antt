@@ -290,7 +290,7 @@ piece_rest p q places lines x y members piece all only add = record {
           omega (arith, one, old_below (length p.items) places (get_or t a 0) piece.part.members below));
     }
 
-    outer_within : (t : List ℕ) → rests.IsPart t (outside members y) → rests.IsPart (outer_of places t) (outside places x)
+    outer_within : (t : List ℕ) → rests.IsSubset t (outside members y) → rests.IsSubset (outer_of places t) (outside places x)
     outer_within t within = record {
       part = (λ j there.
           let at = has_outer places t j there in
@@ -301,7 +301,7 @@ piece_rest p q places lines x y members piece all only add = record {
           (has_outside places x (old_of places at.0) (contains_of places (old_of places at.0) (old_in places at.0 below)) out));
     }
 
-    outer_payable : (t : List ℕ) → All (λ k. k < length places) t → rests.IsPart t (outside members y) → IsPayable q y t → IsPayable p x (outer_of places t)
+    outer_payable : (t : List ℕ) → All (λ k. k < length places) t → rests.IsSubset t (outside members y) → IsPayable q y t → IsPayable p x (outer_of places t)
     outer_payable t inside_t within payable = record {
       paid = (λ j l there below debit.
           let at = has_outer places t j there in
