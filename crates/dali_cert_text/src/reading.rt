@@ -22,10 +22,11 @@ use std::alloc::Global;
 
 /// The problem, the budget and the choice of a block: the bytes are its one spelling. The error is want of memory, or Form
 /// exactly where the bytes are no block; its line, counted from 1, is the first such that no block begins with the lines up
-/// to it. A block is defined in `specs/Block.antt`, and that line in `specs/Form.antt`.
+/// to it. A block and that line are defined in `specs/Form.antt`, and its text in `specs/Block.antt` of dali_cert_print.
 pub fn read_block(alloc: Global, bytes: &[u8]) -> Result<Block, BlockNo>
     ensures found { IfOk result (λ block. Spells bytes.now block) }
     ensures only { (b : Block) → Spells bytes.now b → IfOk result (λ block. block ≡ b) × ((k : ℕ) → result ≢ Err (BlockNo.Form k)) }
+    ensures one { (a b : Block) → Spells bytes.now a → Spells bytes.now b → a ≡ b }
     ensures form { (k : ℕ) → result ≡ Err (BlockNo.Form k) → IsFormLine bytes.now k }
 {
     read_spelled(alloc, bytes)
