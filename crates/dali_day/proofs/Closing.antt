@@ -1,8 +1,10 @@
 use Rattle.std.proofs.Common.{◌≡◌, ◌∙◌, ℕ, ◌+◌, ◌≤◌, ◌⊎◌, inl, inr, Bool, List, [], ◌∷◌, ◌++◌, length, refl, sym, ap, subst, arith, append_assoc, append-nil}
 use Rattle.std.specs.Prelude.{IsTrue, Result, Ok, Err, IfErr}
 use Rattle.dali_entry.specs.EntryRecord.{EntryRecord}
+use Rattle.dali_line.specs.Commands.{commands}
 use Rattle.dali_outside.specs.Outside.{Feed, Sight, Goes}
 use Rattle.dali_outside.specs.Stops.{LeavesOnly}
+use Rattle.dali_register.specs.Front.{IsFront}
 use Rattle.dali_register.specs.Leaving.{LeavesDay}
 use Rattle.dali_register.specs.Standing.{AreEntries, Stands, Spends}
 use Rattle.dali_register.specs.Taking.{GivesUp, PrintsInPart, Flushed}
@@ -10,6 +12,7 @@ use Rattle.dali_register.specs.TextOf.{text_of, lines_of}
 use Rattle.dali_register.specs.declared.refusal.RegisterNo.{RegisterNo}
 use Rattle.dali_register.specs.declared.refusal.RegisterNo.TheVariants as no
 use Rattle.dali_register.specs.declared.register.Register.{Register}
+use Rattle.dali_register.proofs.Fronts.{front_within}
 use Rattle.dali_register.proofs.Spending.{spends_other}
 use Rattle.dali_day.specs.DayRun.{FaultsRose, TakesDay, PrintsDay, Because}
 use Rattle.dali_day.specs.Ending.{end_of_register}
@@ -17,7 +20,12 @@ use Rattle.dali_day.specs.SoFar.{HasFound, Finishes, EndsInput, EndsSo}
 use Rattle.dali_day.specs.declared.end.DayEnd.{DayEnd}
 use Rattle.dali_day.specs.declared.end.DayEnd.TheVariants.{Done, ReadFault, PrintFault, DiskFault, Damaged, OtherDay, LongLine, LongFile, JournalFull, OutOfMemory}
 use Rattle.dali_day.proofs.Inputs.{at_disk_fault}
+use Rattle.dali_day.proofs.Lines.{lines_front}
 use Rattle.dali_day.proofs.Syncs.{few_syncs}
+
+-- the lines of the first entries come first where those of all do
+found_front : (found all more : List EntryRecord) (file_commands : List (List ℕ)) → all ≡ found ++ more → IsFront (lines_of all) file_commands → IsFront (lines_of found) file_commands
+found_front found all more file_commands parts first = front_within (lines_of found) (lines_of all) file_commands (lines_front found all (record { rest = more; parts = parts })) first
 
 -- a day that ends with all entries firm and printed
 pub ends_whole : (s t : Bool) (old new : Feed) (before : Sight) (found added : List EntryRecord) (r : Register) (then : Sight) (end : DayEnd) → HasFound t before r.journal.edition found →
@@ -32,12 +40,14 @@ ends_whole s t old new before found added r then end has stands spends counts in
     done = found ++ added;
     edition = r.journal.edition;
     spelled = has.spelled;
+    header = has.header;
     entries = subst (AreEntries r.journal.edition found) (append-nil (found ++ added)) stands.entries;
     far = inr refl;
     input = input;
     text = text;
     rest = λ told _. record { tail = r.journal.tail; rest = stands.kept.rest told };
     stops = stands.kept.stops;
+    behind = inl (λ told. found_front found (found ++ added) added (commands old.left) refl (input told).first);
     syncs = λ _. few_syncs before found (found ++ added) added then refl spends;
     because = because;
   };
@@ -54,12 +64,14 @@ ends_given_up s t old new before found all edition sight then has gives goes fau
     done = all;
     edition = edition;
     spelled = has.spelled;
+    header = has.header;
     entries = gives.entries;
     far = inr refl;
     input = λ told. at_disk_fault old new (lines_of all) (input told);
     text = λ told. tt;
     rest = λ told not. absurd (not refl);
     stops = gives.stops;
+    behind = inl (λ told. found_front found all gives.entries.added.more (commands old.left) gives.entries.added.parts (input told).first);
     syncs = λ not. absurd (not refl);
     because = tt;
   };
@@ -77,12 +89,14 @@ ends_in_part s t old new before found added tail edition sight then has prints s
     done = found ++ added;
     edition = edition;
     spelled = has.spelled;
+    header = has.header;
     entries = prints.entries;
     far = inr refl;
     input = input;
     text = prints.text;
     rest = λ told _. record { tail = tail; rest = prints.rest told };
     stops = prints.stops;
+    behind = inl (λ told. found_front found (found ++ added) added (commands old.left) refl (input told).first);
     syncs = λ _. few_syncs before found (found ++ added) added then refl spends;
     because = tt;
   };

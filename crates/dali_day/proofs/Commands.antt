@@ -28,7 +28,7 @@ use Rattle.dali_day.specs.SoFar.{HasFound, GoesTo, GoesOnTo, Finishes, EndsInput
 use Rattle.dali_day.specs.declared.end.DayEnd.{DayEnd}
 use Rattle.dali_day.specs.declared.end.DayEnd.TheVariants.{Done, ReadFault, PrintFault, JournalFull, OutOfMemory}
 use Rattle.dali_day.proofs.Closing.{ends_whole, ends_given_up, ends_in_part}
-use Rattle.dali_day.proofs.Inputs.{takes_front, at_full, at_want, takes_stopped, within_stopped, takes_end, takes_over, takes_line, within_end}
+use Rattle.dali_day.proofs.Inputs.{TakesWithin, takes_front, at_print_fault, at_full, at_want, takes_stopped, within_stopped, takes_end, takes_over, takes_line, within_end}
 use Rattle.dali_day.proofs.Lines.{lines_short, lines_more}
 use Rattle.dali_day.proofs.ReadingOn.{reads_line}
 
@@ -100,7 +100,7 @@ module _ (s t : Bool) (old : Feed) (before : Sight) (found added held : List Ent
         so_far = to.so_far;
         ends = tt;
         takes = takes;
-        within = λ told. within_end old last (lines_of known) (takes told);
+        within = λ told. at_print_fault old last (lines_of known) (within_end old last (lines_of known) (takes told));
         read = λ is. absurd (Prim.cc);
         faults = omega (arith, to.faults, faults);
       }
@@ -110,17 +110,17 @@ module _ (s t : Bool) (old : Feed) (before : Sight) (found added held : List Ent
     has_too : HasFound t before after.journal.edition found
     has_too = subst (λ x. HasFound t before x found) (sym edition) has
 
-    takes : IsTrue s → TakesDay old last (lines_of known ++ line ∷ []) PrintFault
+    takes : IsTrue s → TakesWithin old last (lines_of known ++ line ∷ [])
     takes = takes_line s old (lines_of known) reader new feed last to.reads running line gives
 
     -- the lines of all that were known, and of some of this line
     takes_more : (more : List EntryRecord) → IsFront (lines_of more) (line ∷ []) → IsTrue s → TakesDay old last (lines_of (known ++ more)) PrintFault
     takes_more more front told = subst (λ ls. TakesDay old last ls PrintFault) (sym (lines_append known more))
-        (takes_front old last (lines_of known ++ lines_of more) (lines_of known ++ line ∷ [])
-        (record { rest = front.rest; parts = ap (λ xs. lines_of known ++ xs) front.parts ∙ sym (append_assoc (lines_of known) (lines_of more) front.rest) }) (takes told))
+        (at_print_fault old last (lines_of known ++ lines_of more) (takes_front old last (lines_of known ++ lines_of more) (lines_of known ++ line ∷ [])
+        (record { rest = front.rest; parts = ap (λ xs. lines_of known ++ xs) front.parts ∙ sym (append_assoc (lines_of known) (lines_of more) front.rest) }) (takes told)))
 
-    takes_known : IsTrue s → TakesDay old last (lines_of (found ++ (added ++ held))) PrintFault
-    takes_known told = subst (λ xs. TakesDay old last (lines_of xs) PrintFault) behind
+    takes_known : IsTrue s → TakesWithin old last (lines_of (found ++ (added ++ held)))
+    takes_known told = subst (λ xs. TakesWithin old last (lines_of xs)) behind
         (takes_front old last (lines_of known) (lines_of known ++ line ∷ []) (record { rest = line ∷ []; parts = refl }) (takes told))
 
     pub took_on : (result : Result Unit RegisterNo) → Took t before found (added ++ held) line after sight then result → OnOk result (GoesOnTo s t old before found new after last then)
@@ -168,7 +168,7 @@ module _ (s t : Bool) (old : Feed) (before : Sight) (found added held : List Ent
     took_wanting wants =
         ends_whole s t old last before found (added ++ held) after then OutOfMemory has_too wants.stands wants.spends
         (record { read = λ is. absurd (Prim.cc); print = λ is. absurd (Prim.cc); disk = λ is. absurd (Prim.cc); faults = omega (arith, to.faults, faults); goes = wants.stands.kept.goes })
-        (λ told. at_want old last (lines_of (found ++ (added ++ held))) (takes_known told)) wants.stands.kept.text tt
+        (λ told. at_want old last (lines_of (found ++ (added ++ held))) (at_print_fault old last (lines_of (found ++ (added ++ held))) (takes_known told))) wants.stands.kept.text tt
 
     pub took_ends : (result : Result Unit RegisterNo) → Took t before found (added ++ held) line after sight then result → IfErr result (λ n. EndsSo s t old last before then (end_of_register n))
     took_ends (Ok u) took = tt

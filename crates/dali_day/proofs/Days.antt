@@ -61,6 +61,7 @@ day_unopened s t feed before after e tells tells_after damaged only fault bytes 
   told = tells;
   told_after = tells_after;
   damaged = λ told place why is. damaged told place why (damaged_only e place why is);
+  no_history = λ told place why is history spells. not_damaged before.bytes history place why spells (damaged told place why (damaged_only e place why is));
   damaged_only = λ told place why at. is_damage e place why (only told place why at);
   came = inl (record {
     ends = unopened_end e;
@@ -84,6 +85,7 @@ day_opened s t old new before after end tells tells_after so = record {
   told = tells;
   told_after = tells_after;
   damaged = λ told place why is. absurd (not_because s t old before after so.opened.found so.opened.all so.opened.done so.opened.edition end place why is so.opened.because);
+  no_history = λ told place why is. absurd (not_because s t old before after so.opened.found so.opened.all so.opened.done so.opened.edition end place why is so.opened.because);
   damaged_only = λ told place why at. absurd (not_damaged before.bytes so.opened.found place why (record { spells = so.opened.spelled told; legal = record { entries = found_legal } }) at);
   came = inr so.opened;
 }

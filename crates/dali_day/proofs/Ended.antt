@@ -22,7 +22,7 @@ use Rattle.dali_register.specs.Standing.{AreEntries}
 use Rattle.dali_register.specs.TextOf.{text_of, lines_of}
 use Rattle.dali_register.proofs.Fronts.{whole_front, front_within}
 use Rattle.dali_register.proofs.Texts.{lines_append}
-use Rattle.dali_day.specs.Complete.{EachFits, IsClear, IsOtherAt, AnswersOther}
+use Rattle.dali_day.specs.Complete.{NextFits, IsClear, IsOtherAt, AnswersOther}
 use Rattle.dali_day.specs.CrashPrefix.{SpellsFirst, EachSpellsFirst}
 use Rattle.dali_day.specs.DayRun.{TakesDay, HasAtRest, HasDone, DiffersAt, IsNotFirst, NextIsOther, FitsNot, Unopened, Opened, DayRun}
 use Rattle.dali_day.specs.Endings.{IsWhole, LeavesOne, DoesWhole, IsFull, Leaves}
@@ -170,8 +170,17 @@ not_past : (old new : Feed) (lines : List (List ℕ)) (takes : TakesDay old new 
 not_past old new lines takes small =
     omega (arith, ap length takes.moved, length-append takes.taken new.left, ap length takes.at.parts, length-append takes.at.within (takes.at.past ∷ []), takes.at.limit)
 
-not_full : (need left edition : ℕ) (old : Feed) (before : Sight) (all : List EntryRecord) → EachFits old.left before.size → FitsNot true true need left old before all edition → ⊥
-not_full need left edition old before all fits full = omega (arith, fits all full.entry full.next (full.command refl), full.need_is, full.left_is refl, full.short)
+not_full : (need left edition : ℕ) (old : Feed) (before after : Sight) (all : List EntryRecord) → NextFits old.left after → after.size ≡ before.size → HasAtRest edition all after →
+    FitsNot true true need left old before all edition → ⊥
+not_full need left edition old before after all fits size at full =
+    omega (
+      arith,
+      fits edition all full.entry (record { tail = at.tail; at = at.rest.holds }) full.next full.edition_is (full.command refl),
+      size,
+      full.need_is,
+      full.left_is refl,
+      full.short,
+    )
 
 -- where the premise holds, there is no damage
 pub day_undamaged : (old new : Feed) (before after : Sight) (place : ℕ) (why : Damage) → EachSpellsFirst old.left before → DayRun true true old new before after (Damaged place why) → ⊥
@@ -205,7 +214,7 @@ day_complete old new before after LongFile premise clear day = elim day.came [
 ]
 day_complete old new before after (JournalFull need left) premise clear day = elim day.came [
   | inl u ↦ absurd u.ends
-  | inr o ↦ absurd (not_full need left o.edition old before o.all clear.fits o.because.1)
+  | inr o ↦ absurd (not_full need left o.edition old before after o.all clear.fits day.counts.goes.same_size (o.rest refl (λ is. absurd (Prim.cc))) o.because.1)
 ]
 day_complete old new before after OutOfMemory premise clear day = inr refl
 

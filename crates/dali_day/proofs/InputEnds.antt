@@ -17,7 +17,7 @@ second_test true true c h = refl
 second_test true false c h = h
 second_test false b c h = absurd (Prim.cc)
 
-line_short : (line : List ℕ) → IsTrue (is_line line) → length line ≤ MOST_OF_COMMAND
+pub line_short : (line : List ℕ) → IsTrue (is_line line) → length line ≤ MOST_OF_COMMAND
 line_short line is = let test : nat_le (length line) 200 ≡ true = second_test _ (nat_le (length line) 200) _ is in grind (arith, nat_tests)
 
 shorts : (lines : List (List ℕ)) → AllByRecursion (λ line. IsTrue (is_line line)) lines → AllByRecursion (λ line. length line ≤ MOST_OF_COMMAND) lines

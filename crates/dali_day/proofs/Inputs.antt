@@ -18,8 +18,12 @@ use Rattle.dali_day.specs.declared.end.DayEnd.TheVariants.{Done, PrintFault, Dis
 use Rattle.dali_day.proofs.ReadingOn.{going, moves_on, reads_line, reads_first, reads_within, all_read, all_over}
 use Rattle.dali_day.proofs.InputEnds.{broken_off, past_limit, found_long, wants_memory}
 
--- The first of the lines taken, at an end at which only this is known of the input.
-pub takes_front : (old new : Feed) (front whole : List (List ℕ)) → IsFront front whole → TakesDay old new whole PrintFault → TakesDay old new front PrintFault
+-- What is known of the input where lines were given and the file's limit isn't passed, as at another day and a full journal.
+abbrev pub TakesWithin : Feed → Feed → List (List ℕ) → Type 0
+TakesWithin old new lines = TakesDay old new lines (OtherDay 0)
+
+-- the first of the lines taken
+pub takes_front : (old new : Feed) (front whole : List (List ℕ)) → IsFront front whole → TakesWithin old new whole → TakesWithin old new front
 takes_front old new front whole is takes = record {
   taken = takes.taken;
   moved = takes.moved;
@@ -31,17 +35,26 @@ takes_front old new front whole is takes = record {
 pub at_disk_fault : (old new : Feed) (lines : List (List ℕ)) → TakesDay old new lines PrintFault → TakesDay old new lines DiskFault
 at_disk_fault old new lines takes = record { taken = takes.taken; moved = takes.moved; first = takes.first; at = takes.at }
 
-pub at_other_day : (k : ℕ) (old new : Feed) (lines : List (List ℕ)) → TakesDay old new lines PrintFault → TakesDay old new lines (OtherDay k)
+-- the ends at which it is known, and those at which less is
+pub at_print_fault : (old new : Feed) (lines : List (List ℕ)) → TakesWithin old new lines → TakesDay old new lines PrintFault
+at_print_fault old new lines takes = record {
+  taken = takes.taken;
+  moved = takes.moved;
+  first = takes.first;
+  at = record { limit = omega (arith, takes.at.limit); first = takes.at.first };
+}
+
+pub at_other_day : (k : ℕ) (old new : Feed) (lines : List (List ℕ)) → TakesWithin old new lines → TakesDay old new lines (OtherDay k)
 at_other_day k old new lines takes = record { taken = takes.taken; moved = takes.moved; first = takes.first; at = takes.at }
 
-pub at_full : (need left : ℕ) (old new : Feed) (lines : List (List ℕ)) → TakesDay old new lines PrintFault → TakesDay old new lines (JournalFull need left)
+pub at_full : (need left : ℕ) (old new : Feed) (lines : List (List ℕ)) → TakesWithin old new lines → TakesDay old new lines (JournalFull need left)
 at_full need left old new lines takes = record { taken = takes.taken; moved = takes.moved; first = takes.first; at = takes.at }
 
 pub at_want : (old new : Feed) (lines : List (List ℕ)) → TakesDay old new lines PrintFault → TakesDay old new lines OutOfMemory
 at_want old new lines takes = record { taken = takes.taken; moved = takes.moved; first = takes.first; at = takes.at }
 
 -- nothing was taken yet
-pub takes_none : (feed : Feed) → TakesDay feed feed [] PrintFault
+pub takes_none : (feed : Feed) → TakesWithin feed feed []
 takes_none feed = record {
   taken = [];
   moved = refl;
@@ -131,7 +144,7 @@ module _ (s : Bool) (old : Feed) (given : List (List ℕ)) (reader new : Reader)
   }
 
   -- one more line was given
-  pub takes_line : reader.over ≡ false → (line : List ℕ) → Gives s line reader new feed after → IsTrue s → TakesDay old after (given ++ line ∷ []) PrintFault
+  pub takes_line : reader.over ≡ false → (line : List ℕ) → Gives s line reader new feed after → IsTrue s → TakesWithin old after (given ++ line ∷ [])
   takes_line running line gives told =
       let more = reads_line s old given reader new feed after line reads running gives in
       record {
@@ -145,10 +158,10 @@ module _ (s : Bool) (old : Feed) (given : List (List ℕ)) (reader new : Reader)
 pub all_taken : (old new : Feed) (lines : List (List ℕ)) → TakesDay old new lines Done → commands old.left ≡ lines
 all_taken old new lines takes = ap commands (takes.moved ∙ ap (λ xs. takes.taken ++ xs) takes.at.end ∙ append-nil takes.taken) ∙ sym takes.at.all
 
-pub within_end : (old new : Feed) (lines : List (List ℕ)) → TakesDay old new lines Done → TakesDay old new lines PrintFault
+pub within_end : (old new : Feed) (lines : List (List ℕ)) → TakesDay old new lines Done → TakesWithin old new lines
 within_end old new lines takes = record {
   taken = takes.taken;
   moved = takes.moved;
   first = takes.first;
-  at = record { limit = omega (arith, takes.at.limit); first = record { rest = []; parts = sym takes.at.all ∙ sym (append-nil lines) } };
+  at = record { limit = takes.at.limit; first = record { rest = []; parts = sym takes.at.all ∙ sym (append-nil lines) } };
 }

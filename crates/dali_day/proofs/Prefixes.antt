@@ -10,7 +10,7 @@ use Rattle.dali_outside.proofs.Images.{own_left}
 use Rattle.dali_outside.proofs.Moments.{leaves_weaker, keeps_now}
 use Rattle.dali_recover.specs.Spells.{Spells}
 use Rattle.dali_recover.proofs.Spelling.{one_history}
-use Rattle.dali_marks.proofs.Histories.{legal_reported}
+use Rattle.dali_marks.proofs.Histories.{legal_true}
 use Rattle.dali_register.specs.Front.{IsFront}
 use Rattle.dali_register.specs.Leaving.{LeavesDay, SpellsFront}
 use Rattle.dali_register.specs.TextOf.{text_of, lines_of}
@@ -37,7 +37,7 @@ kept_start file before premise image text left =
       printed = left.printed;
       front = subst (λ xs. IsFront xs (text_of is.history)) (sym (take_nothing left.n)) (record { rest = text_of is.history; parts = refl });
       begins = record { image = image; text = text; left = left; start = is.history; spells = is.spells.spells; begins = whole_front is.history };
-      marks = legal_reported is.history is.spells.legal;
+      marks = legal_true is.history is.spells.legal;
     }
 
 legal_front : (front whole : List EntryRecord) → IsFront front whole → AreNext opening 0 whole → IsLegal front
@@ -68,7 +68,7 @@ module _ (s t : Bool) (old new : Feed) (before after : Sight) (end : DayEnd) (s_
     printed = is.printed;
     front = is.front;
     begins = record { image = before.bytes; text = before.printed; left = own_left before tells; start = o.found; spells = o.spelled t_tells; begins = is.begins };
-    marks = legal_reported is.history legal;
+    marks = legal_true is.history legal;
   }
     where
       legal : IsLegal is.history

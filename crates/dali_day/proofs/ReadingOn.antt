@@ -4,7 +4,7 @@ use Rattle.dali_outside.specs.Outside.{Feed}
 use Rattle.dali_line.specs.Commands.{commands, ended_commands}
 use Rattle.dali_line.specs.Lines.{Reader, Gives, Ends, MeetsLine, MeetsLast, MeetsEnd, MOST_OF_FILE, reached}
 use Rattle.dali_register.specs.Front.{IsFront}
-use Rattle.dali_day.specs.Taken.{ReadsAll, StopsWithin}
+use Rattle.dali_day.specs.Taken.{ReadsAll, StopsInLimit}
 use Rattle.dali_day.specs.Reading.{GoesOn, IsOver, HasGiven, Reads}
 
 -- a cut of the bytes got, of what is pending and of whatever follows, after one more line
@@ -108,7 +108,7 @@ all_over told old given reader feed reads ended t =
     record { end = done.end t; limit = omega (arith, reads.taken, reads.within); all = sym done.whole }
 
 -- the lines given are the first commands of the bytes got
-pub reads_within : (told : Bool) (old : Feed) (given : List (List ℕ)) (reader : Reader) (feed : Feed) → (reads : Reads told old given reader feed) → StopsWithin reads.got given
+pub reads_within : (told : Bool) (old : Feed) (given : List (List ℕ)) (reader : Reader) (feed : Feed) → (reads : Reads told old given reader feed) → StopsInLimit reads.got given
 reads_within told old given reader feed reads = record {
   limit = omega (arith, reads.taken, reads.within);
   first = elim (reader.over) as (λ b. reader.over ≡ b → IsFront given (commands reads.got)) [
@@ -118,11 +118,4 @@ reads_within told old given reader feed reads = record {
       parts = ap commands (sym (append-nil reads.got)) ∙ (going told old given reader feed reads is).whole [];
     }
   ] refl;
-}
-
--- and so are the lines without the last one
-pub without_last : (got : List ℕ) (given : List (List ℕ)) (line : List ℕ) → StopsWithin got (given ++ line ∷ []) → StopsWithin got given
-without_last got given line stops = record {
-  limit = stops.limit;
-  first = record { rest = line ∷ stops.first.rest; parts = stops.first.parts ∙ append_assoc given (line ∷ []) stops.first.rest };
 }

@@ -22,7 +22,7 @@ use Rattle.dali_day.specs.DayRun.{TakesDay}
 use Rattle.dali_day.specs.Reading.{Reads}
 use Rattle.dali_day.specs.SoFar.{HasFound, HasRecovered, ReplaysTo, GoesOnTo, EndsSo}
 use Rattle.dali_day.specs.declared.end.DayEnd.TheVariants.{PrintFault, OutOfMemory}
-use Rattle.dali_day.proofs.Inputs.{takes_none, at_want}
+use Rattle.dali_day.proofs.Inputs.{TakesWithin, takes_none, at_print_fault, at_want}
 use Rattle.dali_day.proofs.ReadingOn.{reads_start, reads_first, reads_within}
 use Rattle.dali_day.proofs.Replaying.{ends_again}
 
@@ -37,6 +37,10 @@ module _ (s t : Bool) (feed : Feed) (before sight : Sight) (found : Found) (sinc
         at = subst (HoldsAt found.journal.tail found.journal.edition (records_of found.entries)) (since.unwritten told) (since.rests told).rest.holds;
       };
       entries = since.found_is.read.entries;
+    };
+    header = λ told. record {
+      tail = found.journal.tail;
+      at = subst (HoldsAt found.journal.tail found.journal.edition (records_of found.entries)) (since.unwritten told) (since.rests told).rest.holds;
     };
     legal = since.found_is.read.legal;
     held = since.found_is.read.entries;
@@ -68,14 +72,14 @@ module _ (s t : Bool) (feed : Feed) (before sight : Sight) (found : Found) (sinc
   wants_reader =
       ends_again s t feed feed before sight found.entries [] found.journal.tail found.journal.edition OutOfMemory has_found (record { rest = found.entries; parts = refl })
       (record { read = λ is. absurd (Prim.cc); print = λ is. absurd (Prim.cc); disk = λ is. absurd (Prim.cc); faults = omega arith; goes = since.goes })
-      (λ told. at_want feed feed [] (takes_none feed)) repeats_none.text repeats_none.rest repeats_none.stops since.syncs tt
+      (λ told. at_want feed feed [] (at_print_fault feed feed [] (takes_none feed))) repeats_none.text repeats_none.rest repeats_none.stops since.unwritten since.syncs tt
 
   -- All found entries were gone over again.
   module _ (reader : Reader) (machine : Machine) (last : Feed) (then : Sight) (to : ReplaysTo s t feed before found.entries found.entries found.journal.tail found.journal.edition reader machine last then) where
     -- no memory for the register
     pub wants_register : EndsSo s t feed last before then OutOfMemory
     wants_register =
-        let takes : IsTrue s → TakesDay feed last (lines_of found.entries) PrintFault = (λ told. record {
+        let takes : IsTrue s → TakesWithin feed last (lines_of found.entries) = (λ told. record {
           taken = to.reads.got;
           moved = to.reads.moved told;
           first = reads_first s feed (lines_of found.entries) reader last to.reads told;
@@ -83,7 +87,7 @@ module _ (s t : Bool) (feed : Feed) (before sight : Sight) (found : Found) (sinc
         }) in
         ends_again s t feed last before then found.entries found.entries found.journal.tail found.journal.edition OutOfMemory has_found (whole_front found.entries)
         (record { read = λ is. absurd (Prim.cc); print = λ is. absurd (Prim.cc); disk = λ is. absurd (Prim.cc); faults = to.faults; goes = to.repeats.goes })
-        (λ told. at_want feed last (lines_of found.entries) (takes told)) to.repeats.text to.repeats.rest to.repeats.stops to.syncs tt
+        (λ told. at_want feed last (lines_of found.entries) (at_print_fault feed last (lines_of found.entries) (takes told))) to.repeats.text to.repeats.rest to.repeats.stops to.unwritten to.syncs tt
 
     pub starts : Starts t before found.entries machine found.journal then
     starts = record {

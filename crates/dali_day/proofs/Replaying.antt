@@ -5,7 +5,7 @@ use Rattle.std.proofs.lemmas.List.{length-map, take-append-drop, take_more, take
 use Rattle.dali_entry.specs.EntryRecord.{EntryRecord}
 use Rattle.dali_journal.specs.Appends.{AtRest}
 use Rattle.dali_line.specs.Commands.{commands}
-use Rattle.dali_line.specs.Line.{MOST_OF_COMMAND}
+use Rattle.dali_line.specs.Line.{MOST_OF_COMMAND, is_line}
 use Rattle.dali_line.specs.Lines.{Reader, Gives, Ends, Stops, reached}
 use Rattle.dali_line.specs.declared.line_end.LineEnd.{LineEnd}
 use Rattle.dali_line.specs.declared.line_end.LineEnd.TheVariants as stop
@@ -24,13 +24,14 @@ use Rattle.dali_register.specs.declared.refusal.RegisterNo.{RegisterNo}
 use Rattle.dali_register.specs.declared.refusal.RegisterNo.TheVariants as no
 use Rattle.dali_register.proofs.Adding.{since_none}
 use Rattle.dali_register.proofs.Texts.{next_first}
-use Rattle.dali_day.specs.DayRun.{FaultsRose, TakesDay, PrintsDay, Because, IsNotFirst, DiffersAt}
+use Rattle.dali_day.specs.DayRun.{FaultsRose, TakesDay, PrintsDay, Because, IsNotFirst, DiffersAt, NextIsShort}
 use Rattle.dali_day.specs.Ending.{end_of_input, end_of_register}
 use Rattle.dali_day.specs.Reading.{Reads}
 use Rattle.dali_day.specs.SoFar.{HasFound, ReplaysTo, EndsSo}
 use Rattle.dali_day.specs.declared.end.DayEnd.{DayEnd}
 use Rattle.dali_day.specs.declared.end.DayEnd.TheVariants.{Done, ReadFault, PrintFault, DiskFault, OtherDay, LongLine, LongFile, OutOfMemory}
-use Rattle.dali_day.proofs.Inputs.{takes_front, at_other_day, at_want, takes_stopped, takes_end, takes_over, takes_line, all_taken, within_end}
+use Rattle.dali_day.proofs.Inputs.{TakesWithin, takes_front, at_print_fault, at_other_day, at_want, takes_stopped, takes_end, takes_over, takes_line, all_taken, within_end}
+use Rattle.dali_day.proofs.InputEnds.{line_short}
 use Rattle.dali_day.proofs.Lines.{lines_short, lines_more}
 use Rattle.dali_day.proofs.ReadingOn.{reads_line}
 use Rattle.dali_day.proofs.Syncs.{few_syncs}
@@ -38,9 +39,9 @@ use Rattle.dali_day.proofs.Syncs.{few_syncs}
 -- A day that ends while the found entries are gone over again, with those done before.
 pub ends_again : (s t : Bool) (old new : Feed) (before then : Sight) (found done : List EntryRecord) (tail edition : ℕ) (end : DayEnd) → HasFound t before edition found → IsFront done found →
     FaultsRose old new before then end → (IsTrue s → TakesDay old new (lines_of done) end) → (IsTrue t → PrintsDay end (text_of done) (text_of found) before then) →
-    (IsTrue t → AtRest tail edition (records_of found) then) → (IsTrue t → LeavesOnly (LeavesDay before found found) before then) → then.syncs ≤ before.syncs + 1 →
+    (IsTrue t → AtRest tail edition (records_of found) then) → (IsTrue t → LeavesOnly (LeavesDay before found found) before then) → (IsTrue t → then.bytes ≡ before.bytes) → then.syncs ≤ before.syncs + 1 →
     Because s t old before then found found done edition end → EndsSo s t old new before then end
-ends_again s t old new before then found done tail edition end has front counts input text rest stops syncs because = record {
+ends_again s t old new before then found done tail edition end has front counts input text rest stops unwritten syncs because = record {
   counts = counts;
   opened = record {
     found = found;
@@ -48,12 +49,14 @@ ends_again s t old new before then found done tail edition end has front counts 
     done = done;
     edition = edition;
     spelled = has.spelled;
+    header = has.header;
     entries = record { legal = has.legal.entries; held = has.held; reported = has.reported; added = since_none edition found };
     far = inl (refl, front);
     input = input;
     text = text;
     rest = λ told _. record { tail = tail; rest = rest told };
     stops = stops;
+    behind = inr unwritten;
     syncs = λ _. few_syncs before found found [] then (sym (append-nil found))
         (record { full = 0; others = 0; each = omega arith; few = omega arith; syncs = omega (arith, syncs) });
     because = because;
@@ -82,37 +85,43 @@ module _ (s t : Bool) (old : Feed) (before : Sight) (found done todo : List Entr
   again_stopped stop.ReadFault running stops rose =
       ends_again s t old after before sight found done tail edition ReadFault has front
       (record { read = λ _. omega (arith, rose refl, to.faults); print = λ is. absurd (Prim.cc); disk = λ is. absurd (Prim.cc); faults = omega (arith, to.faults, faults); goes = to.repeats.goes })
-      (takes_stopped s old (lines_of done) reader new feed after to.reads running short stop.ReadFault stops) to.repeats.text to.repeats.rest to.repeats.stops to.syncs tt
+      (takes_stopped s old (lines_of done) reader new feed after to.reads running short stop.ReadFault stops) to.repeats.text to.repeats.rest to.repeats.stops to.unwritten to.syncs tt
   again_stopped (stop.LongLine k) running stops rose =
       ends_again s t old after before sight found done tail edition (LongLine k) has front
       (record { read = λ is. absurd (Prim.cc); print = λ is. absurd (Prim.cc); disk = λ is. absurd (Prim.cc); faults = omega (arith, to.faults, faults); goes = to.repeats.goes })
-      (takes_stopped s old (lines_of done) reader new feed after to.reads running short (stop.LongLine k) stops) to.repeats.text to.repeats.rest to.repeats.stops to.syncs tt
+      (takes_stopped s old (lines_of done) reader new feed after to.reads running short (stop.LongLine k) stops) to.repeats.text to.repeats.rest to.repeats.stops to.unwritten to.syncs tt
   again_stopped stop.LongFile running stops rose =
       ends_again s t old after before sight found done tail edition LongFile has front
       (record { read = λ is. absurd (Prim.cc); print = λ is. absurd (Prim.cc); disk = λ is. absurd (Prim.cc); faults = omega (arith, to.faults, faults); goes = to.repeats.goes })
-      (takes_stopped s old (lines_of done) reader new feed after to.reads running short stop.LongFile stops) to.repeats.text to.repeats.rest to.repeats.stops to.syncs tt
+      (takes_stopped s old (lines_of done) reader new feed after to.reads running short stop.LongFile stops) to.repeats.text to.repeats.rest to.repeats.stops to.unwritten to.syncs tt
   again_stopped stop.OutOfMemory running stops rose =
       ends_again s t old after before sight found done tail edition OutOfMemory has front
       (record { read = λ is. absurd (Prim.cc); print = λ is. absurd (Prim.cc); disk = λ is. absurd (Prim.cc); faults = omega (arith, to.faults, faults); goes = to.repeats.goes })
-      (takes_stopped s old (lines_of done) reader new feed after to.reads running short stop.OutOfMemory stops) to.repeats.text to.repeats.rest to.repeats.stops to.syncs tt
+      (takes_stopped s old (lines_of done) reader new feed after to.reads running short stop.OutOfMemory stops) to.repeats.text to.repeats.rest to.repeats.stops to.unwritten to.syncs tt
 
   -- the file goes on with another line, or ends
-  other_day : (k : ℕ) → k ≡ length done + 1 → (IsTrue s → DiffersAt e.line (lines_of done) (commands old.left)) → (IsTrue s → TakesDay old after (lines_of done) PrintFault) →
+  other_day : (k : ℕ) → k ≡ length done + 1 → (IsTrue s → DiffersAt e.line (lines_of done) (commands old.left)) → (IsTrue s → NextIsShort (lines_of done) (commands old.left)) →
+      (IsTrue s → TakesWithin old after (lines_of done)) →
       EndsSo s t old after before sight (OtherDay k)
-  other_day k number differs takes =
+  other_day k number differs short_next takes =
       ends_again s t old after before sight found done tail edition (OtherDay k) has front
       (record { read = λ is. absurd (Prim.cc); print = λ is. absurd (Prim.cc); disk = λ is. absurd (Prim.cc); faults = omega (arith, to.faults, faults); goes = to.repeats.goes })
-      (λ told. at_other_day k old after (lines_of done) (takes told)) to.repeats.text to.repeats.rest to.repeats.stops to.syncs
-      (record { number = number; kept = e; behind = todo; parts = parts; differs = differs; unwritten = to.unwritten })
+      (λ told. at_other_day k old after (lines_of done) (takes told)) to.repeats.text to.repeats.rest to.repeats.stops to.unwritten to.syncs
+      (record { number = number; kept = e; behind = todo; parts = parts; differs = differs; short = short_next; unwritten = to.unwritten })
 
-  pub other_line : (k : ℕ) (line : List ℕ) → k ≡ length done + 1 → reader.over ≡ false → Gives s line reader new feed after → (line ≡ e.line → ⊥) → EndsSo s t old after before sight (OtherDay k)
-  other_line k line number running gives other =
-      let takes : IsTrue s → TakesDay old after (lines_of done ++ line ∷ []) PrintFault = takes_line s old (lines_of done) reader new feed after to.reads running line gives in
+  pub other_line : (k : ℕ) (line : List ℕ) → k ≡ length done + 1 → reader.over ≡ false → Gives s line reader new feed after → (line ≡ e.line → ⊥) → IsTrue (is_line line) → EndsSo s t old after before sight (OtherDay k)
+  other_line k line number running gives other is =
+      let takes : IsTrue s → TakesWithin old after (lines_of done ++ line ∷ []) = takes_line s old (lines_of done) reader new feed after to.reads running line gives in
       other_day k number
       (λ told. record {
         rest = line ∷ (takes told).first.rest;
         parts = (takes told).first.parts ∙ append_assoc (lines_of done) (line ∷ []) (takes told).first.rest;
         other = other;
+      })
+      (λ told. record {
+        rest = line ∷ (takes told).first.rest;
+        parts = (takes told).first.parts ∙ append_assoc (lines_of done) (line ∷ []) (takes told).first.rest;
+        short = λ long. let few = line_short line is in omega (arith, long, few);
       })
       (λ told. takes_front old after (lines_of done) (lines_of done ++ line ∷ []) (record { rest = line ∷ []; parts = refl }) (takes told))
 
@@ -125,6 +134,7 @@ module _ (s t : Bool) (old : Feed) (before : Sight) (found done todo : List Entr
       ] refl) in
       other_day k number
       (λ told. record { rest = []; parts = all_taken old after (lines_of done) (takes told) ∙ sym (append-nil (lines_of done)); other = tt })
+      (λ told. record { rest = []; parts = all_taken old after (lines_of done) (takes told) ∙ sym (append-nil (lines_of done)); short = λ long. long })
       (λ told. within_end old after (lines_of done) (takes told))
 
   -- the number of the command that is taken next
@@ -133,7 +143,7 @@ module _ (s t : Bool) (old : Feed) (before : Sight) (found done todo : List Entr
 
   -- its line was taken, and its reply printed again or not
   module _ (running : reader.over ≡ false) (gives : Gives s e.line reader new feed after) (next : Machine) (then : Sight) (bytes : IsTrue t → then.bytes ≡ sight.bytes) (syncs : then.syncs ≤ sight.syncs) where
-    takes : IsTrue s → TakesDay old after (lines_of done) PrintFault
+    takes : IsTrue s → TakesWithin old after (lines_of done)
     takes told = takes_front old after (lines_of done) (lines_of done ++ e.line ∷ []) (record { rest = e.line ∷ []; parts = refl })
         (takes_line s old (lines_of done) reader new feed after to.reads running e.line gives told)
 
@@ -155,13 +165,13 @@ module _ (s t : Bool) (old : Feed) (before : Sight) (found done todo : List Entr
     again_ends (Err no.PrintFault) more =
         ends_again s t old after before then found done tail edition PrintFault has front
         (record { read = λ is. absurd (Prim.cc); print = λ _. omega (arith, more.rose, to.repeats.goes.print); disk = λ is. absurd (Prim.cc); faults = omega (arith, to.faults, faults); goes = more.goes })
-        takes more.text more.rest more.stops (omega (arith, syncs, to.syncs)) tt
+        (λ told. at_print_fault old after (lines_of done) (takes told)) more.text more.rest more.stops (λ told. bytes told ∙ to.unwritten told) (omega (arith, syncs, to.syncs)) tt
     again_ends (Err (no.JournalFull need left)) more = absurd more
     again_ends (Err no.OutOfMemory) more =
         subst (λ x. EndsSo s t old after before x OutOfMemory) (sym more)
         (ends_again s t old after before sight found done tail edition OutOfMemory has front
         (record { read = λ is. absurd (Prim.cc); print = λ is. absurd (Prim.cc); disk = λ is. absurd (Prim.cc); faults = omega (arith, to.faults, faults); goes = to.repeats.goes })
-        (λ told. at_want old after (lines_of done) (takes told)) to.repeats.text to.repeats.rest to.repeats.stops to.syncs tt)
+        (λ told. at_want old after (lines_of done) (at_print_fault old after (lines_of done) (takes told))) to.repeats.text to.repeats.rest to.repeats.stops to.unwritten to.syncs tt)
 
 -- the found entries, cut before one of them
 pub cut_at : (entries : List EntryRecord) (i : ℕ) (e : EntryRecord) → i < length entries → e ≡ get_or entries i e → entries ≡ take i entries ++ e ∷ drop (i + 1) entries

@@ -2,6 +2,7 @@ use Rattle.std.specs.Prelude.{◌≡◌, ◌⊎◌, ℕ, ◌+◌, ◌≤◌, Lis
 use Rattle.std.specs.List.{All}
 use Rattle.dali_entry.specs.EntryRecord.{EntryRecord}
 use Rattle.dali_journal.specs.Frames.{frames_length}
+use Rattle.dali_journal.specs.Holds.{Holds}
 use Rattle.dali_line.specs.Commands.{commands}
 use Rattle.dali_line.specs.Line.{MOST_OF_COMMAND}
 use Rattle.dali_line.specs.Lines.{MOST_OF_FILE}
@@ -16,16 +17,18 @@ use Rattle.dali_day.specs.DayRun.{DiffersAt}
 use Rattle.dali_day.specs.declared.end.DayEnd.{DayEnd}
 use Rattle.dali_day.specs.declared.end.DayEnd.TheVariants.{Done, ReadFault, PrintFault, DiskFault, Damaged, OtherDay, LongLine, LongFile, JournalFull, OutOfMemory}
 
--- the record of each entry with which a history of the file's first commands may go on fits on the device
-abbrev pub EachFits : List ℕ → ℕ → Type 0
-EachFits file size = (history : List EntryRecord) (e : EntryRecord) → AreNext opening 0 (history ++ e ∷ []) → IsFront (lines_of history ++ e.line ∷ []) (commands file) →
-    16 + frames_length (records_of history) + (length (record_text e) + 6) ≤ size
+-- the record of each entry with which the history that the device spells may go on fits behind it: an entry of the journal's
+-- edition and of the file's next command
+abbrev pub NextFits : List ℕ → Sight → Type 0
+NextFits file s = (edition : ℕ) (history : List EntryRecord) (e : EntryRecord) → Holds edition (records_of history) s.bytes → AreNext opening 0 (history ++ e ∷ []) → e.edition ≡ edition →
+    IsFront (lines_of history ++ e.line ∷ []) (commands file) → 16 + frames_length (records_of history) + (length (record_text e) + 6) ≤ s.size
 
--- nothing stands in the way of a day: the file is within its limits, each record fits, and no count rose
+-- nothing stands in the way of a day: the file is within its limits, its next record fits behind what the device spells at the
+-- end, and no count rose
 pub record IsClear (old new : Feed) (before after : Sight) : Type 0 where
   pub short : All (λ command. length command ≤ MOST_OF_COMMAND) (commands old.left)
   pub small : length old.left ≤ MOST_OF_FILE
-  pub fits : EachFits old.left before.size
+  pub fits : NextFits old.left after
   pub no_read : Rose old.faults new.faults → ⊥
   pub no_print : Rose before.print_faults after.print_faults → ⊥
   pub no_disk : Rose before.disk_faults after.disk_faults → ⊥

@@ -4,7 +4,7 @@ use Rattle.dali_line.specs.Commands.{commands}
 use Rattle.dali_machine.specs.Machine.{opening}
 use Rattle.dali_outside.specs.Outside.{Sight, now}
 use Rattle.dali_outside.specs.Stops.{MayLeave, Keeps, LeavesOnly}
-use Rattle.dali_recover.specs.Reported.{AreReported}
+use Rattle.dali_marks.specs.AreTrue.{AreTrue}
 use Rattle.dali_recover.specs.Spells.{Spells, SpellsLegal}
 use Rattle.dali_register.specs.Front.{IsFront}
 use Rattle.dali_register.specs.TextOf.{text_of, lines_of}
@@ -38,7 +38,7 @@ pub record KeepsPrefix (file : List ℕ) (before : Sight) (image text : List ℕ
   pub printed : text ≡ before.printed ++ shown
   pub front : IsFront shown (text_of history)
   pub begins : BeginsAtStart before history
-  pub marks : AreReported opening history
+  pub marks : AreTrue opening history
 
 -- at every moment since the start
 abbrev pub CrashPrefix : List ℕ → Sight → Sight → Type 0

@@ -2,21 +2,23 @@ use Rattle.std.specs.Prelude.{◌≡◌, ◌≢◌, ◌⊎◌, ℕ, ◌+◌, ◌
 use Rattle.dali_entry.specs.EntryRecord.{EntryRecord}
 use Rattle.dali_journal.specs.Appends.{AtRest, IsFirm}
 use Rattle.dali_journal.specs.Frames.{frames_length}
+use Rattle.dali_journal.specs.Holds.{Holds}
 use Rattle.dali_journal.specs.Limits.{most_payloads}
 use Rattle.dali_journal.specs.declared.refusal.Damage.{Damage}
 use Rattle.dali_line.specs.Commands.{commands}
+use Rattle.dali_line.specs.Lines.{FirstIsLong}
 use Rattle.dali_machine.specs.History.{AreNext}
 use Rattle.dali_machine.specs.Machine.{opening}
 use Rattle.dali_outside.specs.Outside.{Feed, Sight, Rose, Goes, TellsAll, now}
 use Rattle.dali_outside.specs.Stops.{MayLeave, LeavesOnly}
 use Rattle.dali_record.specs.RecordText.{record_text}
 use Rattle.dali_recover.specs.Damaged.{DamagedAt}
-use Rattle.dali_recover.specs.Spells.{records_of, Spells}
+use Rattle.dali_recover.specs.Spells.{records_of, Spells, SpellsLegal}
 use Rattle.dali_register.specs.Front.{IsFront, PrintsFront}
 use Rattle.dali_register.specs.Leaving.{LeavesDay}
 use Rattle.dali_register.specs.Standing.{AreEntries, cycles_in}
 use Rattle.dali_register.specs.TextOf.{text_of, lines_of}
-use Rattle.dali_day.specs.Taken.{ReadsAll, BreaksAfter, LongAfter, PastLimit, StopsWithin}
+use Rattle.dali_day.specs.Taken.{ReadsAll, BreaksAfter, LongAfter, PastLimit, StopsInLimit, StopsWithin}
 use Rattle.dali_day.specs.declared.end.DayEnd.{DayEnd}
 use Rattle.dali_day.specs.declared.end.DayEnd.TheVariants.{Done, ReadFault, PrintFault, DiskFault, Damaged, OtherDay, LongLine, LongFile, JournalFull, OutOfMemory}
 
@@ -58,10 +60,10 @@ TakenAt ReadFault taken left lines = BreaksAfter taken lines
 TakenAt PrintFault taken left lines = StopsWithin taken lines
 TakenAt DiskFault taken left lines = StopsWithin taken lines
 TakenAt (Damaged place why) taken left lines = ⊥
-TakenAt (OtherDay k) taken left lines = StopsWithin taken lines
+TakenAt (OtherDay k) taken left lines = StopsInLimit taken lines
 TakenAt (LongLine k) taken left lines = LongAfter k taken left lines
 TakenAt LongFile taken left lines = PastLimit taken lines
-TakenAt (JournalFull need left_over) taken left lines = StopsWithin taken lines
+TakenAt (JournalFull need left_over) taken left lines = StopsInLimit taken lines
 TakenAt OutOfMemory taken left lines = StopsWithin taken lines
 
 -- these bytes of the input were taken in the call, and these lines are its first commands
@@ -101,13 +103,20 @@ pub record DiffersAt (line : List ℕ) (lines file_commands : List (List ℕ)) :
   pub parts : file_commands ≡ lines ++ rest
   pub other : IsNotFirst line rest
 
--- the found entry number k isn't of the file's command k, or the file ends before it
+-- behind these lines, which the file begins with, it ends, or its next command isn't long
+pub record NextIsShort (lines file_commands : List (List ℕ)) : Type 0 where
+  pub rest : List (List ℕ)
+  pub parts : file_commands ≡ lines ++ rest
+  pub short : FirstIsLong rest → ⊥
+
+-- the found entry number k isn't of the file's command k, which isn't long, or the file ends before it
 pub record NextIsOther (source_tells site_tells : Bool) (k : ℕ) (old : Feed) (before after : Sight) (found done : List EntryRecord) : Type 0 where
   pub number : k ≡ length done + 1
   pub kept : EntryRecord
   pub behind : List EntryRecord
   pub parts : found ≡ done ++ kept ∷ behind
   pub differs : IsTrue source_tells → DiffersAt kept.line (lines_of done) (commands old.left)
+  pub short : IsTrue source_tells → NextIsShort (lines_of done) (commands old.left)
   pub unwritten : IsTrue site_tells → after.bytes ≡ before.bytes
 
 -- the file has one command more, with whose entry the history stays legal, and whose record doesn't fit behind all
@@ -144,7 +153,11 @@ pub record FewSyncs (before : Sight) (found all : List EntryRecord) (after : Sig
   pub parts : all ≡ found ++ added
   pub syncs : after.syncs ≤ before.syncs + (1 + 2 * (length added / most_payloads + 2 * cycles_in added + 1))
 
--- A history was found. All entries are those found and those that the device has behind them at the end, or may have after
+-- the lines of the found entries are the file's first commands, or nothing was written
+abbrev pub GoesBehind : Bool → Bool → Feed → Sight → Sight → List EntryRecord → Type 0
+GoesBehind source_tells site_tells old before after found = (IsTrue source_tells → IsFront (lines_of found) (commands old.left)) ⊎ (IsTrue site_tells → after.bytes ≡ before.bytes)
+
+-- A history was found, in a journal of this edition. All entries are those found and those that the device has behind them at the end, or may have after
 -- a disk fault; those done are the ones whose lines were taken from the file.
 pub record Opened (source_tells site_tells : Bool) (old new : Feed) (before after : Sight) (end : DayEnd) : Type 0 where
   pub found : List EntryRecord
@@ -152,12 +165,14 @@ pub record Opened (source_tells site_tells : Bool) (old new : Feed) (before afte
   pub done : List EntryRecord
   pub edition : ℕ
   pub spelled : IsTrue site_tells → Spells before.bytes found
+  pub header : IsTrue site_tells → Holds edition (records_of found) before.bytes
   pub entries : AreEntries edition found all
   pub far : HasDone found all done
   pub input : IsTrue source_tells → TakesDay old new (lines_of done) end
   pub text : IsTrue site_tells → PrintsDay end (text_of done) (text_of all) before after
   pub rest : IsTrue site_tells → (end ≡ DiskFault → ⊥) → HasAtRest edition all after
   pub stops : IsTrue site_tells → LeavesOnly (LeavesDay before found all) before after
+  pub behind : GoesBehind source_tells site_tells old before after found
   pub syncs : (end ≡ DiskFault → ⊥) → FewSyncs before found all after
   pub because : Because source_tells site_tells old before after found all done edition end
 
@@ -171,5 +186,6 @@ pub record DayRun (source_tells site_tells : Bool) (old new : Feed) (before afte
   pub told : IsTrue site_tells → TellsAll before
   pub told_after : IsTrue site_tells → TellsAll after
   pub damaged : IsTrue site_tells → (place : ℕ) (why : Damage) → end ≡ Damaged place why → DamagedAt before.bytes place why
+  pub no_history : IsTrue site_tells → (place : ℕ) (why : Damage) → end ≡ Damaged place why → (history : List EntryRecord) → SpellsLegal before.bytes history → ⊥
   pub damaged_only : IsTrue site_tells → (place : ℕ) (why : Damage) → DamagedAt before.bytes place why → IsDamage place why end
   pub came : Unopened site_tells old new before after end ⊎ Opened source_tells site_tells old new before after end

@@ -59,8 +59,3 @@ Leaves old new before after (LongLine k) = LeavesOne before after × DoesWhole o
 Leaves old new before after LongFile = LeavesOne before after × DoesWhole old new before after LongFile
 Leaves old new before after (JournalFull need left) = LeavesOne before after × IsFull need left old before after
 Leaves old new before after OutOfMemory = LeavesOne before after
-
--- what is left where nothing may be written, whatever the journal holds
-pub record Untouched (before after : Sight) : Type 0 where
-  pub unwritten : after.bytes ≡ before.bytes
-  pub silent : after.printed ≡ before.printed

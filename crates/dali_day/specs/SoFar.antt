@@ -1,5 +1,6 @@
 use Rattle.std.specs.Prelude.{◌≡◌, ℕ, ◌+◌, ◌≤◌, Bool, IsTrue, List, ◌++◌, length}
 use Rattle.dali_entry.specs.EntryRecord.{EntryRecord}
+use Rattle.dali_journal.specs.Holds.{Holds}
 use Rattle.dali_line.specs.Lines.{Reader}
 use Rattle.dali_machine.specs.History.{IsLegal, state_of}
 use Rattle.dali_machine.specs.Machine.{Machine, opening}
@@ -8,7 +9,7 @@ use Rattle.dali_outside.specs.Stops.{MayLeave, LeavesOnly}
 use Rattle.dali_recover.specs.Recovers.{IsFound, RestsWith}
 use Rattle.dali_recover.specs.declared.found.Found.{Found}
 use Rattle.dali_recover.specs.Reported.{AreReported}
-use Rattle.dali_recover.specs.Spells.{Spells, AreEntriesIn}
+use Rattle.dali_recover.specs.Spells.{records_of, Spells, AreEntriesIn}
 use Rattle.dali_register.specs.Repeating.{Repeats}
 use Rattle.dali_register.specs.Standing.{SoFar}
 use Rattle.dali_register.specs.TextOf.{lines_of}
@@ -21,6 +22,7 @@ use Rattle.dali_day.specs.declared.end.DayEnd.TheVariants.{Done, ReadFault, Prin
 -- a legal history that was found on the device, in a journal of this edition; what is answered to it is true
 pub record HasFound (told : Bool) (before : Sight) (edition : ℕ) (found : List EntryRecord) : Type 0 where
   pub spelled : IsTrue told → Spells before.bytes found
+  pub header : IsTrue told → Holds edition (records_of found) before.bytes
   pub legal : IsLegal found
   pub held : AreEntriesIn edition found
   pub reported : AreReported opening found

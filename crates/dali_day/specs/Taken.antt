@@ -51,6 +51,11 @@ pub record PastLimit (taken : List ℕ) (lines : List (List ℕ)) : Type 0 where
   pub whole : lines ≡ ended_commands within
   pub none_long : ShowsNoLong taken
 
+-- the lines are the first commands of the bytes taken, which don't pass the file's limit
+pub record StopsInLimit (taken : List ℕ) (lines : List (List ℕ)) : Type 0 where
+  pub limit : length taken ≤ MOST_OF_FILE
+  pub first : IsFront lines (commands taken)
+
 -- the lines are the first commands of the bytes taken
 pub record StopsWithin (taken : List ℕ) (lines : List (List ℕ)) : Type 0 where
   pub limit : length taken ≤ MOST_OF_FILE + 1

@@ -1,5 +1,6 @@
 ghost use Rattle.std.specs.Prelude.{◌≡◌, ◌↔◌, ◌≤◌, ◌++◌, ◌∷◌, [], ℕ, IsTrue, List, OnOk, IfOk, IfErr};
 ghost use Rattle.dali_entry.specs.EntryRecord.{EntryRecord};
+ghost use Rattle.dali_line.specs.Line.{is_line};
 ghost use Rattle.dali_line.specs.Lines.{MOST_OF_FILE};
 ghost use Rattle.dali_machine.specs.History.{HasItsChoice};
 ghost use Rattle.dali_machine.specs.Machine.{opening};
@@ -79,9 +80,10 @@ fn repeat_next<S: Source, T: Site>(
     }
 }
 
-/// Whether the line is the kept entry's.
+/// Whether the line is the kept entry's. Its second clause says again what every line is.
 fn is_of(line: &Line, entry: &Entry) -> bool
-    ensures { IsTrue result ↔ (line.now ≡ entry.now.line) }
+    ensures same { IsTrue result ↔ (line.now ≡ entry.now.line) }
+    ensures line { IsTrue (is_line line.now) }
 {
     line.bytes() == entry.line.bytes()
 }

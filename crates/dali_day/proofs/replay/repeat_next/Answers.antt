@@ -21,7 +21,7 @@ returns-then-not-is_of-clause-ended g c feed sight found done todo tail edition 
     other_line s t feed sight found done todo e tail edition reader after m old new here parts has to c.next.ensures.faults (c.commands-command.result + 1) c.in-Ok-Some.line
     (next_number s t feed sight found done todo e tail edition reader after m old new here parts has to c.next.ensures.faults c.commands-command.result (c.commands-command.ensures ∙ c.requires.counted))
     running ((rw c.in-Ok-Some.field-0-is at c.in-Ok-Some.ensures.some) running)
-    (λ is. true≢false (sym (c.is_of.ensures.1 is) ∙ c.if-not-is_of.true))
+    (λ is. true≢false (sym (c.is_of.ensures.same.1 is) ∙ c.if-not-is_of.true)) c.is_of.ensures.line
 
 pub returns-in-Ok-clause-repeated : goal.returns-in-Ok-clause-repeated
 returns-in-Ok-clause-repeated g c feed sight found done todo tail edition parts has to =
@@ -36,7 +36,7 @@ returns-in-Ok-clause-repeated g c feed sight found done todo tail edition parts 
     let m = c.args.state.now.machine in
     let running : reader.over ≡ false = is_running reader.over c.next.result (λ o. (c.next.ensures.over o).0) (λ none. absurd (Prim.cc)) in
     again_one s t feed sight found done todo e tail edition reader after m old new here parts has to c.next.ensures.faults running
-    (subst (λ l. Gives s l reader after old new) (c.is_of.ensures.0 c.if-not-is_of.false) ((rw c.in-Ok-Some.field-0-is at c.in-Ok-Some.ensures.some) running))
+    (subst (λ l. Gives s l reader after old new) (c.is_of.ensures.same.0 c.if-not-is_of.false) ((rw c.in-Ok-Some.field-0-is at c.in-Ok-Some.ensures.some) running))
     c.repeat.new.state.machine (g.T.Site.sight c.repeat.new.site) (λ told. (c.in-Ok.ensures.disk told).bytes) c.in-Ok.ensures.syncs (Ok c.in-Ok.field-0)
     (c.in-Ok.ensures.repeated sight found done todo tail edition parts to.machine_is has.held to.repeats)
 
@@ -54,7 +54,7 @@ returns-in-Ok-Some-clause-ended g c feed sight found done todo tail edition part
     let running : reader.over ≡ false = is_running reader.over c.next.result (λ o. (c.next.ensures.over o).0) (λ none. absurd (Prim.cc)) in
     subst (EndsSo s t feed new sight (g.T.Site.sight c.repeat.new.site)) (sym c.end_of_register.ensures)
     (again_ends s t feed sight found done todo e tail edition reader after m old new here parts has to c.next.ensures.faults running
-    (subst (λ l. Gives s l reader after old new) (c.is_of.ensures.0 c.if-not-is_of.false) ((rw c.in-Ok-Some.field-0-is at c.in-Ok-Some.ensures.some) running))
+    (subst (λ l. Gives s l reader after old new) (c.is_of.ensures.same.0 c.if-not-is_of.false) ((rw c.in-Ok-Some.field-0-is at c.in-Ok-Some.ensures.some) running))
     c.repeat.new.state.machine (g.T.Site.sight c.repeat.new.site) (λ told. (c.in-Err-repeat.ensures.disk told).bytes) c.in-Err-repeat.ensures.syncs (Err c.in-Err-repeat.no)
     (c.in-Err-repeat.ensures.repeated sight found done todo tail edition parts to.machine_is has.held to.repeats))
 
