@@ -7,18 +7,18 @@ use Rattle.dali_entry.specs.EntryRecord.{EntryRecord}
 use Rattle.dali_record.specs.RecordText.{record_text}
 use Rattle.dali_replica.specs.Frame.{frame_text, EndsWithin, IsOverlong}
 use Rattle.dali_replica.specs.Limits.{most_record}
-use Rattle.dali_replica.specs.Shipping.{IsFrameOf, IsShipped, shipped_text}
+use Rattle.dali_replica.specs.Shipping.{IsFrameOf, IsShipped, frames_from, frames_of, shipped}
 use Rattle.dali_replica.specs.Stream.{ShippedRecord, IsFrame, stream_text, StandFrom, HasFrames}
 use Rattle.dali_replica.proofs.Fronts.{same_frame, whole_not_within, whole_not_overlong, within_not_overlong}
 use Rattle.dali_follow.specs.Takes.{AreFirst}
 use Rattle.dali_follow.proofs.Takings.{Front}
 
-abbrev shipped : ℕ → ℕ → List ℕ → ShippedRecord
-shipped place number bytes = record { place = place; number = number; bytes = bytes }
+abbrev frame_at : ℕ → ℕ → List ℕ → ShippedRecord
+frame_at place number bytes = record { place = place; number = number; bytes = bytes }
 
 pub frame_is : (f g : ShippedRecord) → f.place ≡ g.place → f.number ≡ g.number → f.bytes ≡ g.bytes → f ≡ g
 frame_is f g places numbers records =
-    ap (λ k. shipped k f.number f.bytes) places ∙ ap (λ k. shipped g.place k f.bytes) numbers ∙ ap (λ (bs : List ℕ). shipped g.place g.number bs) records
+    ap (λ k. frame_at k f.number f.bytes) places ∙ ap (λ k. frame_at g.place k f.bytes) numbers ∙ ap (λ (bs : List ℕ). frame_at g.place g.number bs) records
 
 -- first frames of bytes are the first of all whole ones, and what is behind them is the others
 record Parsed (frames whole : List ShippedRecord) (rest end : List ℕ) : Type 0 where
@@ -59,8 +59,8 @@ module _ (history : List EntryRecord) (stream : List ℕ) (ships : IsShipped his
   pub first_shipped : (frames : List ShippedRecord) → AreFirst stream frames → Front frames ships.frames
   first_shipped frames are = let p = parsed frames are in record { rest = p.more; parts = p.parts }
 
-  pub frames_of : (frames : List ShippedRecord) → AreFirst stream frames → All (IsFrameOf history) frames
-  frames_of frames are = let p = parsed frames are in all_front (IsFrameOf history) frames p.more (subst (All (IsFrameOf history)) p.parts ships.each)
+  pub frames_are : (frames : List ShippedRecord) → AreFirst stream frames → All (IsFrameOf history) frames
+  frames_are frames are = let p = parsed frames are in all_front (IsFrameOf history) frames p.more (subst (All (IsFrameOf history)) p.parts ships.each)
 
   -- and no length in it is too long
   pub none_overlong : (frames : List ShippedRecord) (rest : List ℕ) → AreFirst stream frames → stream ≡ stream_text frames ++ rest → IsOverlong rest → ⊥
@@ -80,27 +80,19 @@ module _ (history : List EntryRecord) (stream : List ℕ) (ships : IsShipped his
 
 -- ---- all frames of a history, in order
 
-abbrev pub frames_from : ℕ → ℕ → List EntryRecord → List ShippedRecord
-frames_from place number [] = []
-frames_from place number (e ∷ entries) = shipped place number (record_text e) ∷ frames_from (place + length (frame_text number (record_text e))) (number + 1) entries
-
-text_from : (place number : ℕ) (entries : List EntryRecord) → stream_text (frames_from place number entries) ≡ shipped_text number entries
-text_from place number [] = refl
-text_from place number (e ∷ entries) = ap (λ (bs : List ℕ). frame_text number (record_text e) ++ bs) (text_from (place + length (frame_text number (record_text e))) (number + 1) entries)
-
-stand_from : (place number : ℕ) (entries : List EntryRecord) → number + length entries < 2 ^ 64 → All (λ (e : EntryRecord). length (record_text e) ≤ most_record) entries → StandFrom place (frames_from place number entries)
-stand_from place number [] few short = tt
-stand_from place number (e ∷ entries) few short = (
+stand_from : (number place : ℕ) (entries : List EntryRecord) → number + length entries < 2 ^ 64 → All (λ (e : EntryRecord). length (record_text e) ≤ most_record) entries → StandFrom place (frames_from number place entries)
+stand_from number place [] few short = tt
+stand_from number place (e ∷ entries) few short = (
   refl,
   record { number = omega (arith, few); short = All-head (λ (x : EntryRecord). length (record_text x) ≤ most_record) e entries short },
-  stand_from (place + length (frame_text number (record_text e))) (number + 1) entries (omega (arith, few)) (All-tail (λ (x : EntryRecord). length (record_text x) ≤ most_record) e entries short),
+  stand_from (number + 1) (place + length (frame_text number (record_text e))) entries (omega (arith, few)) (All-tail (λ (x : EntryRecord). length (record_text x) ≤ most_record) e entries short),
 )
 
-pub whole_from : (stream : List ℕ) (entries : List EntryRecord) → stream ≡ shipped_text 1 entries → length entries < 2 ^ 64 - 1 → All (λ (e : EntryRecord). length (record_text e) ≤ most_record) entries →
-    HasFrames stream (frames_from 0 1 entries)
+pub whole_from : (stream : List ℕ) (entries : List EntryRecord) → stream ≡ shipped entries → length entries < 2 ^ 64 - 1 → All (λ (e : EntryRecord). length (record_text e) ≤ most_record) entries →
+    HasFrames stream (frames_of entries)
 whole_from stream entries is few short = record {
   rest = [];
-  parts = is ∙ sym (text_from 0 1 entries) ∙ sym (append-nil (stream_text (frames_from 0 1 entries)));
-  stand = stand_from 0 1 entries (omega (arith, few)) short;
+  parts = is ∙ sym (append-nil (stream_text (frames_of entries)));
+  stand = stand_from 1 0 entries (omega (arith, few)) short;
   no_more = inl (inl (omega arith));
 }

@@ -13,11 +13,10 @@ use Rattle.dali_recover.specs.Spells.{records_of}
 use Rattle.dali_recover.proofs.Histories.{next_there}
 use Rattle.dali_replica.specs.Frame.{frame_text}
 use Rattle.dali_replica.specs.Judging.{IsNumbered, ComesNotNext, GoesNotOn, IsNextBy, IsKept, IsAhead, IsOther, IsBad}
-use Rattle.dali_replica.specs.Shipping.{IsFrameOf}
+use Rattle.dali_replica.specs.Shipping.{IsFrameOf, frames_from, frames_of}
 use Rattle.dali_replica.specs.Stream.{ShippedRecord}
 use Rattle.dali_replica.proofs.Judges.{one_record, one_numbered, kept_bounds}
 use Rattle.dali_follow.specs.Takes.{Takes}
-use Rattle.dali_follow.proofs.Parses.{frames_from}
 use Rattle.dali_follow.proofs.Takings.{Front}
 
 next_first : (m : Machine) (last : ℕ) (first second : List EntryRecord) → AreNext m last (first ++ second) → AreNext m last first
@@ -104,13 +103,13 @@ record Reaches (primary first history rest : List EntryRecord) : Type 0 where
   far : length first ≤ length history
 
 in_order : (edition : ℕ) (primary first history rest : List EntryRecord) (place number : ℕ) (all : List EntryRecord) → number ≡ length first + 1 → Reaches primary first history rest →
-    All (IsFrameOf primary) (frames_from place number rest) → Takes edition history (frames_from place number rest) all → all ≡ primary
+    All (IsFrameOf primary) (frames_from number place rest) → Takes edition history (frames_from number place rest) all → all ≡ primary
 in_order edition primary first history [] place number all at far are same =
     let cut = same_cut history primary far.front.rest [] (sym far.front.parts ∙ sym (append-nil primary)) (omega (arith, far.far, ap length (far.whole ∙ append-nil first), ap length far.front.parts, length-append history far.front.rest)) in
     same ∙ cut.front_is
 in_order edition primary first history (e ∷ rest) place number all at far are (inl adds) =
     let f : ShippedRecord = record { place = place; number = number; bytes = record_text e } in
-    let front = next_front edition primary history f adds.0 far.front (All-head (IsFrameOf primary) f (frames_from (place + length (frame_text number (record_text e))) (number + 1) rest) are) adds.1 in
+    let front = next_front edition primary history f adds.0 far.front (All-head (IsFrameOf primary) f (frames_from (number + 1) (place + length (frame_text number (record_text e))) rest) are) adds.1 in
     let next = adds.1 in
     in_order edition primary (first ++ e ∷ []) (history ++ adds.0 ∷ []) rest (place + length (frame_text number (record_text e))) (number + 1) all (omega (arith, at, length-append first (e ∷ [])))
     (record {
@@ -118,7 +117,7 @@ in_order edition primary first history (e ∷ rest) place number all at far are 
       front = front;
       far = omega (arith, far.far, length-append first (e ∷ []), length-append history (adds.0 ∷ []));
     })
-    (All-tail (IsFrameOf primary) f (frames_from (place + length (frame_text number (record_text e))) (number + 1) rest) are) adds.2
+    (All-tail (IsFrameOf primary) f (frames_from (number + 1) (place + length (frame_text number (record_text e))) rest) are) adds.2
 in_order edition primary first history (e ∷ rest) place number all at far are (inr passes) =
     let f : ShippedRecord = record { place = place; number = number; bytes = record_text e } in
     in_order edition primary (first ++ e ∷ []) history rest (place + length (frame_text number (record_text e))) (number + 1) all (omega (arith, at, length-append first (e ∷ [])))
@@ -127,14 +126,14 @@ in_order edition primary first history (e ∷ rest) place number all at far are 
       front = far.front;
       far = let long = longer passes.0 in omega (arith, long, at, length-append first (e ∷ []));
     })
-    (All-tail (IsFrameOf primary) f (frames_from (place + length (frame_text number (record_text e))) (number + 1) rest) are) passes.1
+    (All-tail (IsFrameOf primary) f (frames_from (number + 1) (place + length (frame_text number (record_text e))) rest) are) passes.1
   where
     longer : IsKept history (record { place = place; number = number; bytes = record_text e }) ⊎ IsAhead history (record { place = place; number = number; bytes = record_text e }) → number ≤ length history
     longer (inl kept) = (kept_bounds edition history (record { place = place; number = number; bytes = record_text e }) kept).1
     longer (inr ahead) = absurd (omega (arith, ahead, at, far.far))
 
 -- a prefix of a history that takes all its frames becomes the history
-pub takes_all : (edition : ℕ) (primary found all : List EntryRecord) → Front found primary → All (IsFrameOf primary) (frames_from 0 1 primary) → Takes edition found (frames_from 0 1 primary) all → all ≡ primary
+pub takes_all : (edition : ℕ) (primary found all : List EntryRecord) → Front found primary → All (IsFrameOf primary) (frames_of primary) → Takes edition found (frames_of primary) all → all ≡ primary
 takes_all edition primary found all front are takes =
     in_order edition primary [] found primary 0 1 all refl (record { whole = refl; front = front; far = omega arith }) are takes
 

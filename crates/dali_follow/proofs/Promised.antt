@@ -10,7 +10,7 @@ use Rattle.dali_record.specs.IsRecord.{IsRecord}
 use Rattle.dali_recover.specs.Spells.{SpellsLegal}
 use Rattle.dali_recover.proofs.Histories.{all_there}
 use Rattle.dali_recover.proofs.Spelling.{one_history}
-use Rattle.dali_replica.specs.Shipping.{IsFrameOf}
+use Rattle.dali_replica.specs.Shipping.{IsFrameOf, frames_of}
 use Rattle.dali_replica.specs.Stream.{ShippedRecord, HasFrames}
 use Rattle.dali_replica.specs.Limits.{most_stream}
 use Rattle.dali_replica.proofs.Fronts.{one_stream}
@@ -28,7 +28,7 @@ use Rattle.dali_follow.specs.declared.end.FollowEnd.{FollowEnd}
 use Rattle.dali_follow.specs.declared.end.FollowEnd.TheVariants.{Done, ReadFault, PrintFault, DiskFault, Damaged, OtherDay, BadFrame, LongFile, JournalFull, OutOfMemory}
 use Rattle.dali_follow.proofs.Exactly.{run_other, run_bad, run_overlong}
 use Rattle.dali_follow.proofs.Leaving.{run_undamaged, run_leaves}
-use Rattle.dali_follow.proofs.Parses.{first_shipped, frames_of, none_overlong, shipped_whole, frames_from, whole_from}
+use Rattle.dali_follow.proofs.Parses.{first_shipped, frames_are, none_overlong, shipped_whole, whole_from}
 use Rattle.dali_follow.proofs.Prefixes.{run_prefix, run_begins, run_again, stream_first}
 use Rattle.dali_follow.proofs.Primaries.{taken_front, not_other, not_bad, takes_all, fits_next}
 use Rattle.dali_follow.proofs.Streams.{whole_has}
@@ -47,7 +47,7 @@ start_front primary stream before edition found image is spelled =
 kept_follows : (primary : List EntryRecord) (stream : List ℕ) (before : Sight) → ComesFrom primary stream before → (image text : List ℕ) → KeepsTaken stream before image text → SpellsPrefix primary image
 kept_follows primary stream before comes image text kept =
     let front = start_front primary stream before kept.edition kept.found kept.start (comes.starts kept.start kept.start_text kept.left) kept.spelled in
-    let on = taken_front kept.edition primary kept.found kept.frames kept.history front (frames_of primary stream comes.shipped kept.frames kept.first) kept.takes in
+    let on = taken_front kept.edition primary kept.found kept.frames kept.history front (frames_are primary stream comes.shipped kept.frames kept.first) kept.takes in
     record { history = kept.history; legal = legal_in kept.edition kept.history image kept.spells; rest = on.rest; parts = on.parts }
 
 module _ (old new : Feed) (before after : Sight) (end : FollowEnd) (primary : List EntryRecord) (comes : ComesFrom primary old.left before) (tells : TellsAll before) (o : Opened true true old new before after end) where
@@ -58,11 +58,11 @@ module _ (old new : Feed) (before after : Sight) (end : FollowEnd) (primary : Li
   first_are = stream_first old new o.follows.frames end (o.follows.input refl)
 
   all_front : Front o.follows.all primary
-  all_front = taken_front o.edition primary o.found o.follows.frames o.follows.all found_front (frames_of primary old.left comes.shipped o.follows.frames first_are) o.follows.takes
+  all_front = taken_front o.edition primary o.found o.follows.frames o.follows.all found_front (frames_are primary old.left comes.shipped o.follows.frames first_are) o.follows.takes
 
   -- the frame behind those taken is the primary's
   next_of : (f : ShippedRecord) → AreFirst old.left (o.follows.frames ++ f ∷ []) → IsFrameOf primary f
-  next_of f are = all_there (IsFrameOf primary) o.follows.frames f [] (frames_of primary old.left comes.shipped (o.follows.frames ++ f ∷ []) are)
+  next_of f are = all_there (IsFrameOf primary) o.follows.frames f [] (frames_are primary old.left comes.shipped (o.follows.frames ++ f ∷ []) are)
 
   -- and its record's edition is one that the journal can hold
   next_held : CanHold old.left before → (f : ShippedRecord) → AreFirst old.left (o.follows.frames ++ f ∷ []) → (e : EntryRecord) → IsRecord f.bytes e → e.edition ≤ o.edition
@@ -96,9 +96,9 @@ no_bad old new before after place primary comes holds run = elim run.came [
 holds_primary : (old new : Feed) (before after : Sight) (primary : List EntryRecord) → ComesFrom primary old.left before → IsClear primary old new before after → TellsAll before → HoldsAll old.left before after → HoldsPrimary primary before after Done
 holds_primary old new before after primary comes clear tells all =
     let front = start_front primary old.left before all.edition all.found before.bytes (comes.starts before.bytes before.printed (own_left before tells)) all.spelled in
-    let whole : HasFrames old.left (frames_from 0 1 primary) = whole_from old.left primary clear.whole clear.few clear.short in
-    let same : all.frames ≡ frames_from 0 1 primary = one_stream old.left all.frames (frames_from 0 1 primary) (whole_has old.left all.frames all.whole) whole in
-    let ships : comes.shipped.frames ≡ frames_from 0 1 primary = one_stream old.left comes.shipped.frames (frames_from 0 1 primary) (shipped_whole primary old.left comes.shipped) whole in
+    let whole : HasFrames old.left (frames_of primary) = whole_from old.left primary clear.whole clear.few clear.short in
+    let same : all.frames ≡ frames_of primary = one_stream old.left all.frames (frames_of primary) (whole_has old.left all.frames all.whole) whole in
+    let ships : comes.shipped.frames ≡ frames_of primary = one_stream old.left comes.shipped.frames (frames_of primary) (shipped_whole primary old.left comes.shipped) whole in
     let is : all.history ≡ primary = takes_all all.edition primary all.found all.history front (subst (All (IsFrameOf primary)) ships comes.shipped.each)
     (subst (λ (fs : List ShippedRecord). Takes all.edition all.found fs all.history) same all.takes) in
     record {

@@ -8,7 +8,7 @@ use Rattle.dali_record.specs.IsRecord.{IsRecord}
 use Rattle.dali_record.specs.RecordText.{record_text}
 use Rattle.dali_recover.specs.Spells.{records_of, SpellsLegal}
 use Rattle.dali_replica.specs.Limits.{most_record, most_stream}
-use Rattle.dali_replica.specs.Shipping.{IsShipped, shipped_text}
+use Rattle.dali_replica.specs.Shipping.{IsShipped, shipped}
 use Rattle.dali_replica.specs.Stream.{ShippedRecord, HasFrames}
 use Rattle.dali_upkeep.specs.Editions.{SpellsIn}
 use Rattle.dali_upkeep.specs.RaiseRun.{EachAtStart}
@@ -38,7 +38,7 @@ pub record CanHold (stream : List ℕ) (before : Sight) : Type 0 where
 -- nothing stands in the way of following a primary to its end: the stream has all its frames in order, within the limits;
 -- each record fits on the device; and no count rose
 pub record IsClear (primary : List EntryRecord) (old new : Feed) (before after : Sight) : Type 0 where
-  pub whole : old.left ≡ shipped_text 1 primary
+  pub whole : old.left ≡ shipped primary
   pub short : All (λ (e : EntryRecord). length (record_text e) ≤ most_record) primary
   pub few : length primary < 2 ^ 64 - 1
   pub small : length old.left ≤ most_stream

@@ -14,15 +14,11 @@ use std::alloc::Global;
 
 /// Whether the entry has a choice exactly where its line, read in its edition, is an accepted CYCLE, and then one that
 /// fits and is allowed for the problem of its moment and its budget. Nothing is searched.
-pub(crate) fn has_its_choice(
-    alloc: Global,
-    state: &State,
-    entry: &Entry,
-) -> Result<bool, OutOfMemory>
+pub fn has_its_choice(alloc: Global, state: &State, entry: &Entry) -> Result<bool, OutOfMemory>
     ensures { IfOk result (λ has. IsTrue has ↔ HasItsChoice state.now.machine (judged entry.now.edition state.now.machine entry.now.line) entry.now.choice) }
 {
     match (
-        state.cycle_input(entry.edition, &entry.line)?,
+        state.cycle_input(alloc, entry.edition, &entry.line)?,
         &entry.choice,
     ) {
         (None, None) => Ok(true),

@@ -14,8 +14,10 @@ mod taking;
 mod window;
 
 pub use found::Found;
+pub use judging::has_its_choice;
 pub use recovering::recover;
 pub use refusal::RecoverNo;
+pub use taking::last_edition;
 
 #[cfg(test)]
 mod tests;

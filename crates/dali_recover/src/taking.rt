@@ -31,8 +31,8 @@ pub(crate) fn take_payload(
     take_entry(alloc, entry, state, entries)
 }
 
-/// The edition of the last entry, or 0.
-fn last_edition(entries: &Entries) -> u8
+/// The edition of the last entry, or 0 where there is none.
+pub fn last_edition(entries: &Entries) -> u8
     ensures { result ≡ last_edition 0 entries.now }
 {
     match entries.as_slice().last() {

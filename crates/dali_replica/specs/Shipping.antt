@@ -1,4 +1,4 @@
-use Rattle.std.specs.Prelude.{◌≡◌, ℕ, ◌+◌, List, [], ◌∷◌, ◌++◌}
+use Rattle.std.specs.Prelude.{◌≡◌, ℕ, ◌+◌, List, [], ◌∷◌, ◌++◌, length}
 use Rattle.std.specs.List.{All}
 use Rattle.dali_entry.specs.EntryRecord.{EntryRecord}
 use Rattle.dali_record.specs.IsRecord.{IsRecord}
@@ -7,10 +7,19 @@ use Rattle.dali_replica.specs.Frame.{frame_text, EndsWithin}
 use Rattle.dali_replica.specs.Judging.{IsNumbered}
 use Rattle.dali_replica.specs.Stream.{ShippedRecord, stream_text, StandFrom}
 
--- the frames of these entries in order, the first of this number
-abbrev pub shipped_text : ℕ → List EntryRecord → List ℕ
-shipped_text number [] = []
-shipped_text number (e ∷ entries) = frame_text number (record_text e) ++ shipped_text (number + 1) entries
+-- the frames of entries one after the other, of which the first has this number and stands at this place of the stream
+abbrev pub frames_from : ℕ → ℕ → List EntryRecord → List ShippedRecord
+frames_from number place [] = []
+frames_from number place (e ∷ es) =
+    record { place = place; number = number; bytes = record_text e } ∷ frames_from (number + 1) (place + length (frame_text number (record_text e))) es
+
+-- the frames of a history: the record of each entry, in order, with the number of its command, counted from 1
+abbrev pub frames_of : List EntryRecord → List ShippedRecord
+frames_of history = frames_from 1 0 history
+
+-- a shipped history: the bytes of its frames, one right after the other
+abbrev pub shipped : List EntryRecord → List ℕ
+shipped history = stream_text (frames_of history)
 
 -- a frame of a history: its record is that of the history's entry of its number
 pub record IsFrameOf (history : List EntryRecord) (f : ShippedRecord) : Type 0 where

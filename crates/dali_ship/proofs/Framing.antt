@@ -14,7 +14,7 @@ use Rattle.dali_replica.specs.Frame.{frame_text}
 use Rattle.dali_replica.specs.Stream.{stream_text, StandFrom, HasFrames}
 use Rattle.dali_outside.specs.Outside.{Sight}
 use Rattle.dali_ship.specs.Printing.{SoFar}
-use Rattle.dali_ship.specs.Shipping.{frames_from, frames_of, shipped}
+use Rattle.dali_replica.specs.Shipping.{frames_from, frames_of, shipped}
 use Rattle.dali_ship.proofs.Sizes.{record_short}
 
 -- the text of entries' frames, of which the first has this number

@@ -17,7 +17,8 @@ use Rattle.dali_replica.specs.Limits.{most_record}
 use Rattle.dali_replica.specs.Frame.{head_text, frame_text, EndsWithin}
 use Rattle.dali_replica.specs.Stream.{stream_text, StandFrom}
 use Rattle.dali_replica.proofs.Fronts.{head_length, frame_length}
-use Rattle.dali_ship.specs.Shipping.{frames_from, shipped, HasFirstFrames}
+use Rattle.dali_replica.specs.Shipping.{frames_from, shipped}
+use Rattle.dali_ship.specs.Shipping.{HasFirstFrames}
 use Rattle.dali_ship.proofs.Sizes.{record_short}
 
 -- a part of a frame, without its last byte

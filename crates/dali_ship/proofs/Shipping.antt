@@ -17,7 +17,7 @@ use Rattle.dali_recover.proofs.Reading.{few}
 use Rattle.dali_upkeep.specs.Printing.{LeavesFront}
 use Rattle.dali_upkeep.proofs.Putting.{goes_on}
 use Rattle.dali_upkeep.proofs.Recovering.{Finds, Refuses, found_legal}
-use Rattle.dali_ship.specs.Shipping.{shipped}
+use Rattle.dali_replica.specs.Shipping.{shipped}
 use Rattle.dali_ship.specs.ShipRun.{ShipPrints, ShipsHistory, LeavesShip, ShipsUnfailed, ShipRun}
 use Rattle.dali_ship.specs.Printing.{SoFar, EndsWithin, PrintsOn}
 use Rattle.dali_ship.specs.Ending.{unshipped, ended}

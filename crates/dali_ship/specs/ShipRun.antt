@@ -8,7 +8,7 @@ use Rattle.dali_recover.specs.Spells.{SpellsLegal}
 use Rattle.dali_recover.specs.Damaged.{DamagedAt}
 use Rattle.dali_replica.specs.Stream.{HasFrames}
 use Rattle.dali_upkeep.specs.ExportRun.{EachIs}
-use Rattle.dali_ship.specs.Shipping.{frames_of, shipped}
+use Rattle.dali_replica.specs.Shipping.{frames_of, shipped}
 use Rattle.dali_ship.specs.declared.ship.ShipEnd.{ShipEnd}
 use Rattle.dali_ship.specs.declared.ship.ShipEnd.TheVariants.{Done, PrintFault, DiskFault, Damaged, OutOfMemory}
 

@@ -6,7 +6,7 @@ ghost use Rattle.dali_record.specs.IsRecord.{IsWithin};
 ghost use Rattle.dali_record.specs.RecordText.{record_text};
 ghost use Rattle.dali_replica.specs.Frame.{frame_text};
 ghost use Rattle.dali_ship.specs.Printing.{SoFar, PrintsOn};
-ghost use Rattle.dali_ship.specs.Shipping.{shipped};
+ghost use Rattle.dali_replica.specs.Shipping.{shipped};
 
 use dali_base::{OutOfMemory, Text};
 use dali_entry::Entry;

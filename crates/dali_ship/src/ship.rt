@@ -5,7 +5,8 @@ ghost use Rattle.dali_recover.specs.Spells.{AreEntriesIn};
 ghost use Rattle.dali_replica.specs.Stream.{HasFrames};
 ghost use Rattle.dali_ship.specs.Ending.{unshipped, ended};
 ghost use Rattle.dali_ship.specs.ShipRun.{ShipRun};
-ghost use Rattle.dali_ship.specs.Shipping.{frames_of, shipped, HasFirstFrames};
+ghost use Rattle.dali_replica.specs.Shipping.{frames_of, shipped};
+ghost use Rattle.dali_ship.specs.Shipping.{HasFirstFrames};
 
 use crate::printing::{PrintNo, print_frames};
 use dali_journal::Damage;
@@ -33,8 +34,8 @@ pub enum ShipEnd {
 /// is written; opening the journal syncs.
 ///
 /// What it answers, when, and what it has printed at every stop is defined in `specs/ShipRun.antt`. The frames of a history
-/// (`specs/Shipping.antt`) are those that a reader of its shipped bytes gets, by the clause `frames`, and of a front of these
-/// bytes he gets the first of them, by `fronts`.
+/// (`specs/Shipping.antt` of dali_replica) are those that a reader of its shipped bytes gets, by the clause `frames`, and of a
+/// front of these bytes he gets the first of them, by `fronts`.
 pub fn ship_journal<T: Site>(alloc: Global, site: &mut T) -> ShipEnd
     ensures run { ShipRun T.tells (T.sight site.old) (T.sight site.new) result }
     ensures frames { (edition : ℕ) (history : List EntryRecord) → AreEntriesIn edition history → IsLegal history → length history < 2 ^ 64 →

@@ -1,7 +1,7 @@
 use Rattle.std.proofs.Common.{◌∙◌, ◌+◌, [], List, ℕ, ◌++◌, drop, sym, ap, subst, arith}
 use Rattle.std.proofs.lemmas.Result.{err_from_is_err_and}
 use Rattle.dali_ship.specs.Printing.{SoFar}
-use Rattle.dali_ship.specs.Shipping.{shipped}
+use Rattle.dali_replica.specs.Shipping.{shipped}
 use Rattle.dali_ship.proofs.Framing.{text_from, next_at, all_gone}
 use Rattle.dali_ship.proofs.Pieces.{begun, wanted}
 use Rattle.dali_ship.proofs.printing.print_frames.Goals as goal

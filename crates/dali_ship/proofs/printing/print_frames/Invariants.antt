@@ -1,6 +1,6 @@
 use Rattle.std.proofs.Common.{◌+◌, drop}
 use Rattle.dali_ship.specs.Printing.{SoFar}
-use Rattle.dali_ship.specs.Shipping.{shipped}
+use Rattle.dali_replica.specs.Shipping.{shipped}
 use Rattle.dali_ship.proofs.Framing.{text_from}
 use Rattle.dali_ship.proofs.printing.print_frames.Given as goal
 

@@ -1,7 +1,7 @@
 use Rattle.std.proofs.Common.{[], List, sym, ap, subst, arith, Err}
 use Rattle.dali_recover.specs.declared.refusal.RecoverNo.{RecoverNo}
 use Rattle.dali_ship.specs.Printing.{PrintsOn}
-use Rattle.dali_ship.specs.Shipping.{shipped}
+use Rattle.dali_replica.specs.Shipping.{shipped}
 use Rattle.dali_ship.specs.ShipRun.{ShipRun}
 use Rattle.dali_ship.proofs.Framing.{frames_back}
 use Rattle.dali_ship.proofs.Fronts.{fronts}
