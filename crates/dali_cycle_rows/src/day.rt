@@ -109,7 +109,7 @@ pub(crate) fn choose(
 ) -> Result<Option<Choice>, OutOfMemory>
     ensures { IfOk result (HasItsChoice state.now.machine (judged edition state.now.machine line.now)) }
 {
-    match state.cycle_input(edition, line)? {
+    match state.cycle_input(alloc, edition, line)? {
         Some(cycle) => Ok(Some(solve_parts(alloc, &cycle.0.problem, cycle.1)?)),
         None => Ok(None),
     }

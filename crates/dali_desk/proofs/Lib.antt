@@ -1,3 +1,4 @@
+pub mod Blocks
 pub mod Printing
 pub mod Jobs
 pub mod Sizes

@@ -1,9 +1,11 @@
 use Rattle.std.specs.Prelude.{◌≡◌, Bool, IsTrue}
+use Rattle.dali_machine.specs.Machine.{opening}
 use Rattle.dali_outside.specs.Outside.{Feed, Sight}
-use Rattle.dali_day.specs.DayRun.{DayRun}
+use Rattle.dali_day.specs.DayRun.{Opened, DayRun}
 use Rattle.dali_day.specs.Promises.{DayPromises}
 use Rattle.dali_day.specs.declared.end.DayEnd.{DayEnd}
 use Rattle.dali_day.specs.declared.end.DayEnd.TheVariants as ends
+use Rattle.dali_desk.specs.Blocks.{HaveValidBlocks}
 use Rattle.dali_desk.specs.declared.status.Status.{Status}
 use Rattle.dali_desk.specs.declared.status.Status.TheVariants.{Done, ReadFault, PrintFault, DiskFault, Damaged, OtherDay, LongLine, LongFile, JournalFull, OutOfMemory}
 
@@ -26,3 +28,5 @@ pub record DayOver (source_tells site_tells : Bool) (old new : Feed) (before aft
   pub status_is : status ≡ status_of_day end
   pub day : DayRun source_tells site_tells old new before after end
   pub promises : IsTrue source_tells → IsTrue site_tells → DayPromises old new before after end
+  -- where a history was found, each cycle of it and of what was added prints a block that `check` calls valid
+  pub blocks : (o : Opened source_tells site_tells old new before after end) → HaveValidBlocks opening o.all

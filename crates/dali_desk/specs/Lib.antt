@@ -2,6 +2,7 @@ pub mod Limits
 pub mod Words
 pub mod StatusLine
 pub mod Texts
+pub mod Blocks
 pub mod DayOver
 pub mod Twice
 pub mod Upkeep

@@ -37,7 +37,7 @@ pub(crate) fn payments(rt: &impl Abort, alloc: Global, cash: u64, count: u64) ->
 pub(crate) fn problem_behind(rt: &impl Abort, alloc: Global, text: Text) -> Problem {
     let state = state_behind(rt, alloc, text);
     let cycle = Line::copy(alloc, b"090000,CYCLE,0".as_slice()).expect(rt, "memory");
-    let input = state.cycle_input(1, &cycle).expect(rt, "memory");
+    let input = state.cycle_input(alloc, 1, &cycle).expect(rt, "memory");
     input.expect(rt, "a cycle").0.problem
 }
 
@@ -48,7 +48,7 @@ fn state_behind(rt: &impl Abort, alloc: Global, text: Text) -> State {
     let mut lines = Lines::new(alloc).expect(rt, "memory");
     for _ in 0..u64::MAX {
         match lines.next(&mut source).expect(rt, "a line") {
-            Some(line) => take(rt, &mut state, &line),
+            Some(line) => take(rt, alloc, &mut state, &line),
             None => break,
         }
     }
@@ -56,9 +56,14 @@ fn state_behind(rt: &impl Abort, alloc: Global, text: Text) -> State {
 }
 
 /// Takes a command that is no cycle.
-fn take(rt: &impl Abort, state: &mut State, line: &Line) {
+fn take(rt: &impl Abort, alloc: Global, state: &mut State, line: &Line) {
     assert!(rt; state.commands() < 1_000_000);
-    assert!(rt; state.cycle_input(1, line).expect(rt, "memory").is_none());
+    assert!(rt;
+        state
+            .cycle_input(alloc, 1, line)
+            .expect(rt, "memory")
+            .is_none()
+    );
     let ready = state.prepare(1, line, None).expect(rt, "memory");
     let _outcome = state.commit(ready);
 }

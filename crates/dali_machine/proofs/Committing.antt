@@ -10,7 +10,7 @@ use Rattle.dali_machine.specs.declared.judged.Judged.{Judged}
 use Rattle.dali_machine.specs.declared.judged.Judged.TheVariants as judgements
 use Rattle.dali_machine.specs.Refusals.{refusal}
 use Rattle.dali_machine.specs.Effects.{accepted, net_for}
-use Rattle.dali_machine.specs.Outcomes.{answered, IsReported}
+use Rattle.dali_machine.specs.Outcomes.{answered, IsReported, IsTrueOutcome}
 use Rattle.dali_machine.specs.declared.outcome.Outcome.{Outcome}
 use Rattle.dali_machine.specs.declared.outcome.Outcome.TheVariants as outcomes
 use Rattle.dali_machine.specs.declared.report.CycleReport.{CycleReport}
@@ -219,6 +219,15 @@ no_cycle m None None has none = refl
 no_cycle m None (Some d) has none = refl
 no_cycle m (Some p) None has none = refl
 no_cycle m (Some p) (Some d) has none = absurd (none p d refl refl)
+
+-- what a machine answers is true
+pub true_outcome : (o : Outcome) → IsReported o → IsTrueOutcome o
+true_outcome (outcomes.Cycle report) told = told.tells
+true_outcome outcomes.Done told = tt
+true_outcome (outcomes.No code) told = tt
+true_outcome (outcomes.Queue rows) told = tt
+true_outcome (outcomes.Stat pairs ids) told = tt
+true_outcome (outcomes.Ledger rows) told = tt
 
 -- what isn't answered by a cycle reports nothing
 pub plain_reported : (m : Machine) (j : Judged) → IsReported (turn m j None).outcome

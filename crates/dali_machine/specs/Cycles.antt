@@ -10,6 +10,7 @@ use Rattle.dali_line.specs.declared.command.Verb.{Verb}
 use Rattle.dali_line.specs.declared.command.Verb.TheVariants.{Cycle}
 use Rattle.dali_problem.specs.Clearing.{Clearing}
 use Rattle.dali_problem.specs.Feasible.{value_of}
+use Rattle.dali_problem.specs.Limits.{IsProblem}
 use Rattle.dali_queue.specs.declared.cycle.CycleInput.{CycleInput}
 use Rattle.dali_queue.specs.CycleProblem.{problem_of, input_of, chosen_of}
 use Rattle.dali_queue.specs.NetOf.{items_at, net_of}
@@ -17,6 +18,7 @@ use Rattle.dali_queue.specs.Queue.{removed}
 use Rattle.dali_tree.specs.declared.choice.Choice.{Choice}
 use Rattle.dali_tree.specs.Fits.{Fits}
 use Rattle.dali_machine.specs.Machine.{Machine}
+use Rattle.dali_machine.specs.Named.{HasNames}
 use Rattle.dali_machine.specs.declared.judged.Judged.{Judged}
 use Rattle.dali_machine.specs.declared.judged.Judged.TheVariants as judgements
 use Rattle.dali_machine.specs.declared.report.CycleMark.{CycleMark}
@@ -111,8 +113,15 @@ pub record IsTrueMark (p : Clearing) (report : CycleReport) : Type 0 where
   pub spent : report.mark ≡ Unfinished → report.branchings ≡ report.budget
   pub few : report.mark ≡ Unfinished → report.budget + 1 < 2 ^ length p.items
 
--- what every report is: its choice fits its problem and is allowed for it and the budget, and its mark is true
+-- a report is true: its choice fits its problem and is allowed for it and the budget, and its mark is true
 pub record IsTrueReport (report : CycleReport) : Type 0 where
   pub chosen : IsChoiceFor report.problem report.budget report.choice
   pub budget : report.budget ≤ most_budget
   pub mark : IsTrueMark report.problem report
+
+-- what every report that a machine makes is: true, and of a problem within the limits that calls everything by a name, so
+-- that it has a block
+pub record IsMadeReport (report : CycleReport) : Type 0 where
+  pub tells : IsTrueReport report
+  pub problem : IsProblem report.problem
+  pub names : HasNames report.problem

@@ -4,6 +4,7 @@ pub mod Kept
 pub mod StateKept
 pub mod Refusals
 pub mod Effects
+pub mod Named
 pub mod Cycles
 pub mod Outcomes
 pub mod Step

@@ -4,7 +4,7 @@ use Rattle.dali_account.specs.Pairs.{pairs_of}
 use Rattle.dali_waiting.specs.Rows.{waiting_rows, held_ids}
 use Rattle.dali_line.specs.declared.command.Verb.{Verb}
 use Rattle.dali_line.specs.declared.command.Verb.TheVariants as verbs
-use Rattle.dali_machine.specs.Cycles.{IsTrueReport}
+use Rattle.dali_machine.specs.Cycles.{IsTrueReport, IsMadeReport}
 use Rattle.dali_machine.specs.Machine.{Machine}
 use Rattle.dali_machine.specs.declared.outcome.Code.{Code}
 use Rattle.dali_machine.specs.declared.outcome.Outcome.{Outcome}
@@ -21,6 +21,11 @@ answered m (verbs.Ledger account) = Ledger (filter (λ p. same_bytes p.account a
 answered m _ = Done
 
 -- where a cycle is answered, its report is true
+abbrev pub IsTrueOutcome : Outcome → Type 0
+IsTrueOutcome (Cycle report) = IsTrueReport report
+IsTrueOutcome _ = Unit {0}
+
+-- where a machine answers a cycle, its report is true and has a block
 abbrev pub IsReported : Outcome → Type 0
-IsReported (Cycle report) = IsTrueReport report
+IsReported (Cycle report) = IsMadeReport report
 IsReported _ = Unit {0}

@@ -6,6 +6,7 @@
 #![tactic(auto)]
 
 mod judged;
+mod names;
 mod outcome;
 mod ready;
 mod report;

@@ -9,14 +9,14 @@ use Rattle.dali_entry.specs.EntryRecord.{EntryRecord}
 use Rattle.dali_machine.specs.Machine.{Machine, opening}
 use Rattle.dali_machine.specs.Cycles.{HasChoice, accepted_cycle, cycling}
 use Rattle.dali_machine.specs.History.{IsNext, AreNext, IsLegal, after_entry}
-use Rattle.dali_machine.specs.Outcomes.{IsReported}
+use Rattle.dali_machine.specs.Outcomes.{IsTrueOutcome}
 use Rattle.dali_machine.specs.Ready.{HasGoodFields}
 use Rattle.dali_machine.specs.Step.{judged, judged_by, judged_command, step, turn, verdict}
 use Rattle.dali_machine.specs.declared.judged.Judged.{Judged}
 use Rattle.dali_machine.specs.declared.judged.Judged.TheVariants as judgements
 use Rattle.dali_machine.specs.declared.outcome.Code.{Code}
-use Rattle.dali_machine.proofs.Committing.{step_outcome, plain_reported, accepted_is}
-use Rattle.dali_recover.specs.Reported.{AreReported}
+use Rattle.dali_machine.proofs.Committing.{step_outcome, plain_reported, true_outcome, accepted_is}
+use Rattle.dali_marks.specs.AreTrue.{AreTrue}
 use Rattle.dali_marks.proofs.Marks.{true_report}
 
 -- a line that is accepted has its fields in their ranges
@@ -37,27 +37,27 @@ judged_fields edition m line = by (command_of edition line) refl
         at false = of (verdict m c)
 
 -- what is answered to a judged line that has its choice is true
-turn_reported : (m : Machine) (j : Judged) (choice : Option Choice) → HasGoodFields j → HasChoice m (accepted_cycle j) choice → IsReported (turn m j (cycling (accepted_cycle j) choice)).outcome
-turn_reported m j choice fields has = by (accepted_cycle j) choice refl has
+turn_true : (m : Machine) (j : Judged) (choice : Option Choice) → HasGoodFields j → HasChoice m (accepted_cycle j) choice → IsTrueOutcome (turn m j (cycling (accepted_cycle j) choice)).outcome
+turn_true m j choice fields has = by (accepted_cycle j) choice refl has
   where
-    by : (c : Option (ℕ × ℕ)) (choice : Option Choice) → accepted_cycle j ≡ c → HasChoice m c choice → IsReported (turn m j (cycling c choice)).outcome
-    by None choice is has = plain_reported m j
+    by : (c : Option (ℕ × ℕ)) (choice : Option Choice) → accepted_cycle j ≡ c → HasChoice m c choice → IsTrueOutcome (turn m j (cycling c choice)).outcome
+    by None choice is has = true_outcome (turn m j None).outcome (plain_reported m j)
     by (Some c) None is has = absurd has
     by (Some c) (Some choice) is has =
         let cycle : j ≡ judgements.Yes c.0 (Cycle c.1) = accepted_is j c is in
         let small : c.1 ≤ most_budget = (subst HasGoodFields cycle fields).most in
-        subst (λ (k : Judged). IsReported (turn m k (Some (record { budget = c.1; choice = choice }))).outcome) (sym cycle) (true_report m c.0 c.1 choice small has)
+        subst (λ (k : Judged). IsTrueOutcome (turn m k (Some (record { budget = c.1; choice = choice }))).outcome) (sym cycle) (true_report m c.0 c.1 choice small has)
 
 -- and what is answered to an entry that may come next
-pub entry_reported : (m : Machine) (last : ℕ) (e : EntryRecord) → IsNext m last e → IsReported (step e.edition m e.line e.choice).outcome
-entry_reported m last e next =
-    subst IsReported (sym (step_outcome m e.edition e.line e.choice))
-    (turn_reported m (judged e.edition m e.line) e.choice (judged_fields e.edition m e.line) next.choice)
+pub entry_true : (m : Machine) (last : ℕ) (e : EntryRecord) → IsNext m last e → IsTrueOutcome (step e.edition m e.line e.choice).outcome
+entry_true m last e next =
+    subst IsTrueOutcome (sym (step_outcome m e.edition e.line e.choice))
+    (turn_true m (judged e.edition m e.line) e.choice (judged_fields e.edition m e.line) next.choice)
 
-pub entries_reported : (m : Machine) (last : ℕ) (entries : List EntryRecord) → AreNext m last entries → AreReported m entries
-entries_reported m last [] are = tt
-entries_reported m last (e ∷ entries) are = (entry_reported m last e are.0, entries_reported (after_entry m e) e.edition entries are.1)
+pub entries_true : (m : Machine) (last : ℕ) (entries : List EntryRecord) → AreNext m last entries → AreTrue m entries
+entries_true m last [] are = tt
+entries_true m last (e ∷ entries) are = (entry_true m last e are.0, entries_true (after_entry m e) e.edition entries are.1)
 
 -- so it is in each legal history
-pub legal_reported : (history : List EntryRecord) → IsLegal history → AreReported opening history
-legal_reported history legal = entries_reported opening 0 history legal.entries
+pub legal_true : (history : List EntryRecord) → IsLegal history → AreTrue opening history
+legal_true history legal = entries_true opening 0 history legal.entries

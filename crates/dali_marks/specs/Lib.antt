@@ -1,4 +1,4 @@
 pub mod OwnLines
+pub mod AreTrue
 pub use Rattle.dali_machine.specs.Cycles
 pub use Rattle.dali_machine.specs.History
-pub use Rattle.dali_recover.specs.Reported

@@ -10,7 +10,7 @@ ghost use Rattle.dali_machine.specs.Machine.{Machine, opening};
 ghost use Rattle.dali_machine.specs.Cycles.{IsChoiceFor, IsTrueReport, problem_at, report_of};
 ghost use Rattle.dali_machine.specs.declared.report.CycleMark.TheVariants.{Optimal};
 ghost use Rattle.dali_machine.specs.History.{AreNext, IsLegal};
-ghost use Rattle.dali_recover.specs.Reported.{AreReported};
+ghost use Rattle.dali_marks.specs.AreTrue.{AreTrue};
 ghost use Rattle.dali_marks.specs.OwnLines.{ChangesOwnLines};
 
 /// The call does nothing and stands for its clauses.
@@ -27,6 +27,6 @@ pub fn marks_are_true()
     ensures enough { (m : Machine) (t budget : ℕ) (choice : Choice) → IsChoiceFor (problem_at m t) budget choice →
         2 ^ length (problem_at m t).items ≤ budget + 1 → (report_of m t budget choice).mark ≡ Optimal }
     ensures entries { (m : Machine) (last : ℕ) (entries : List EntryRecord) → AreNext m last entries →
-        AreReported m entries }
-    ensures histories { (history : List EntryRecord) → IsLegal history → AreReported opening history }
+        AreTrue m entries }
+    ensures histories { (history : List EntryRecord) → IsLegal history → AreTrue opening history }
 {}

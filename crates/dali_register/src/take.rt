@@ -29,7 +29,10 @@ impl Register {
         ensures counted { OnOk result (self.new.state.machine.commands ≡ self.old.state.machine.commands + 1) }
         ensures edition { self.new.journal.edition ≡ self.old.journal.edition }
     {
-        match self.state.cycle_input(self.journal.edition(), &line) {
+        match self
+            .state
+            .cycle_input(self.alloc, self.journal.edition(), &line)
+        {
             Ok(Some(cycle)) => self.take_cycle(line, &cycle.0.problem, cycle.1, site),
             Ok(None) => self.take_plain(line, site),
             Err(OutOfMemory) => self.end_wanting(site),

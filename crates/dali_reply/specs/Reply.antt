@@ -1,7 +1,8 @@
-use Rattle.std.specs.Prelude.{ℕ, List, [], ◌∷◌, ◌++◌, codes, decimal}
+use Rattle.std.specs.Prelude.{ℕ, ◌≤◌, List, [], ◌∷◌, ◌++◌, length, codes, decimal}
 use Rattle.std.specs.Fmt.{signed_decimal}
 use Rattle.std.specs.List.{flat_map}
 use Rattle.dali_account.specs.declared.pairs.Pair.{Pair}
+use Rattle.dali_base.specs.Limits.{most_budget}
 use Rattle.dali_ledger.specs.declared.posting.Posting.{Posting}
 use Rattle.dali_waiting.specs.declared.rows.WaitRow.{WaitRow}
 use Rattle.dali_waiting.specs.RowText.{row_text}
@@ -13,6 +14,7 @@ use Rattle.dali_machine.specs.declared.report.CycleMark.{CycleMark}
 use Rattle.dali_machine.specs.declared.report.CycleMark.TheVariants.{Optimal, Unfinished}
 use Rattle.dali_machine.specs.declared.report.CycleReport.{CycleReport}
 use Rattle.dali_cert_print.specs.Block.{block_text}
+use Rattle.dali_tree.specs.Fits.{Fits}
 use Rattle.dali_machine.specs.declared.outcome.Outcome.TheVariants.{Done, No, Cycle, Queue, Stat, Ledger}
 
 -- A reply is one line or more. Each is a row of text, fields joined by commas and ended by LF: the number k of the
@@ -84,3 +86,12 @@ reply_text k (Cycle report) = cycle_line k report ++ flat_map (post_line k) repo
 reply_text k (Queue rows) = flat_map (wait_line k) rows ++ end_line k
 reply_text k (Stat pairs ids) = flat_map (balance_line k) pairs ++ flat_map (held_line k) ids ++ end_line k
 reply_text k (Ledger rows) = flat_map (posting_line k) rows ++ end_line k
+
+-- what of an outcome has a text: in a cycle's report the choice fits the problem, and the budget is within its limit
+pub record HasBlock (report : CycleReport) : Type 0 where
+  pub fits : Fits (length report.problem.items) (length report.problem.lines) report.choice
+  pub budget : report.budget ≤ most_budget
+
+abbrev pub HasText : Outcome → Type 0
+HasText (Cycle report) = HasBlock report
+HasText _ = Unit {0}

@@ -1,9 +1,7 @@
 ghost use Rattle.std.specs.Prelude.{◌≡◌, ◌++◌, IfOk, OnOk};
 ghost use Rattle.std.specs.List.{flat_map};
-ghost use Rattle.dali_reply.specs.Reply.{cycle_line, post_line, end_line, wait_line, balance_line, held_line, posting_line, reply_text};
+ghost use Rattle.dali_reply.specs.Reply.{cycle_line, post_line, end_line, wait_line, balance_line, held_line, posting_line, reply_text, HasBlock, HasText};
 ghost use Rattle.dali_cert_print.specs.Block.{block_text};
-ghost use Rattle.dali_machine.specs.Cycles.{IsTrueReport};
-ghost use Rattle.dali_machine.specs.Outcomes.{IsReported};
 
 use crate::lines::{
     add_balance, add_cycle, add_end, add_held, add_no, add_ok, add_post, add_posting, add_wait,
@@ -20,10 +18,10 @@ use std::alloc::Global;
 const ROOM: usize = 32;
 
 /// The reply to the command of this number, counted from 1, that had this outcome: its lines, each ended by LF. They
-/// are defined in `specs/Reply.antt`. A cycle's report is true, as each that the machine answers is. The error is want of
-/// memory.
+/// are defined in `specs/Reply.antt`. In a cycle's report the choice fits the problem, and the budget is at most 4,096. The
+/// error is want of memory.
 pub fn reply(alloc: Global, number: u64, outcome: &Outcome) -> Result<Text, OutOfMemory>
-    requires { IsReported outcome.now }
+    requires { HasText outcome.now }
     ensures { IfOk result (λ text. text ≡ reply_text number outcome.now) }
 {
     let mut text = Text::from_vec(Vec::with_capacity(alloc, ROOM)?);
@@ -37,7 +35,7 @@ fn add_outcome(
     number: u64,
     outcome: &Outcome,
 ) -> Result<(), OutOfMemory>
-    requires { IsReported outcome.now }
+    requires { HasText outcome.now }
     ensures { OnOk result (text.new ≡ text.old ++ reply_text number outcome.now) }
 {
     match outcome {
@@ -67,7 +65,7 @@ fn add_report(
     number: u64,
     report: &CycleReport,
 ) -> Result<(), OutOfMemory>
-    requires { IsTrueReport report.now }
+    requires { HasBlock report.now }
     ensures { OnOk result (text.new
         ≡ text.old ++ (cycle_line number report.now ++ flat_map (post_line number) report.now.ids ++ block_text report.now.problem report.now.budget report.now.choice ++ end_line number)) }
 {

@@ -57,7 +57,7 @@ impl Course {
         ensures choice { IfOk result (HasItsChoice self.now.state.machine (judged trial_edition self.now.state.machine line.now)) }
         ensures finest { IfOk result (λ choice. HasFinest self.now.state.machine choice (accepted_cycle (judged trial_edition self.now.state.machine line.now))) }
     {
-        match self.state.cycle_input(EDITION, line)? {
+        match self.state.cycle_input(self.alloc, EDITION, line)? {
             Some(cycle) => Ok(Some(solve_parts(self.alloc, &cycle.0.problem, cycle.1)?)),
             None => Ok(None),
         }

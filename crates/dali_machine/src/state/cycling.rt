@@ -13,6 +13,7 @@ ghost use Rattle.dali_line.specs.declared.command.Verb.{Verb as Wish};
 
 use super::State;
 use crate::judged::Judged;
+use crate::names::see_names;
 use crate::outcome::Outcome;
 use crate::ready::Ready;
 use crate::report::{CycleMark, CycleReport};
@@ -30,6 +31,7 @@ impl State {
     /// isn't an accepted CYCLE. The budget is at most 4,096. Want of memory is the only error.
     pub fn cycle_input(
         &self,
+        alloc: Global,
         edition: u8,
         line: &Line,
     ) -> Result<Option<(CycleInput, u64)>, OutOfMemory>
@@ -38,7 +40,7 @@ impl State {
     {
         match accepted_cycle(&self.judge(edition, line.bytes())) {
             Some(cycle) => {
-                let input = self.queue.problem(self.alloc, &self.book, cycle.0)?;
+                let input = self.queue.problem(alloc, &self.book, cycle.0)?;
                 Ok(Some((input, cycle.1)))
             }
             None => Ok(None),
@@ -61,8 +63,9 @@ impl State {
         ensures room { IfOk result (CanCommit self.new) }
     {
         let input = self.queue.problem(self.alloc, &self.book, moment)?;
-        // The limits of a problem and of the queue bound the report's numbers.
+        // The limits of a problem and of the queue bound the report's numbers, and its names have a block.
         let _items = input.problem.items();
+        see_names(&input.problem);
         let _waiting = self.queue.len();
         let places = chosen_places(self.alloc, choice.places.as_slice(), &input)?;
         let net = self.queue.net(self.alloc, &places)?;

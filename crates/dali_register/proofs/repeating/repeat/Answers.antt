@@ -2,10 +2,14 @@ use Rattle.std.proofs.Common.{◌≡◌, ◌∙◌, ◌+◌, ◌++◌, List, ℕ
 use Rattle.dali_machine.specs.Machine.{Machine}
 use Rattle.dali_machine.specs.Ready.{IsReady}
 use Rattle.dali_machine.specs.Step.{step}
-use Rattle.dali_reply.specs.Reply.{reply_text}
+use Rattle.dali_reply.specs.Reply.{reply_text, HasText}
+use Rattle.dali_reply.proofs.Outcomes.{reported_text}
 use Rattle.dali_register.specs.TextOf.{answer_to}
 use Rattle.dali_register.proofs.Replies.{repeated_one, repeated_in_part}
 use Rattle.dali_register.proofs.repeating.repeat.Goals as goal
+
+pub reply-requires : goal.reply-requires
+reply-requires g c = subst HasText (sym c.outcome.ensures.outcome) (reported_text c.in_ok-ready.ready.outcome c.outcome.ensures.reported)
 
 pub returns-in-Ok-clause-repeated : goal.returns-in-Ok-clause-repeated
 returns-in-Ok-clause-repeated g c before found done todo tail edition parts state entries repeats =

@@ -5,7 +5,7 @@ use Rattle.dali_problem.specs.Limits.{IsProblem}
 use Rattle.dali_queue.specs.CycleProblem.{chosen_of}
 use Rattle.dali_queue.specs.NetOf.{items_at, net_of}
 use Rattle.dali_queue.specs.declared.cycle.CycleInput.{CycleInput}
-use Rattle.dali_machine.specs.Cycles.{IsChoiceFor, IsTrueReport, ids_at, input_at, places_in, problem_at, report_of, report_on}
+use Rattle.dali_machine.specs.Cycles.{IsChoiceFor, IsMadeReport, ids_at, input_at, places_in, problem_at, report_of, report_on}
 use Rattle.dali_machine.specs.Machine.{Machine, StateRecord}
 use Rattle.dali_machine.specs.Ready.{CanCommit, IsMadeReady}
 use Rattle.dali_machine.specs.StateKept.{machine_of}
@@ -68,10 +68,14 @@ new-requires-clause-reported c =
     let is : c.in_ok-input.input.problem ≡ problem_at c.args.self.now.machine c.args.moment =
     ap (λ (i : CycleInput). i.problem) c.in_ok-input.ensures ∙ input_problem (machine_of c.self.inside) c.args.moment ∙ ap (λ (s : StateRecord). problem_at s.machine c.args.moment) c.self.view_is in
     let chosen : IsChoiceFor c.in_ok-input.input.problem c.args.budget c.args.choice = subst (λ p. IsChoiceFor p c.args.budget c.args.choice) (sym is) c.requires.choice in
-    subst IsTrueReport (sym c.report_on-report.ensures) (record {
-      chosen = chosen;
-      budget = c.requires.budget;
-      mark = true_mark c.in_ok-input.input.problem c.args.budget c.args.choice c.items-items.ensures.bounds chosen c.in_ok-ids.ids;
+    subst IsMadeReport (sym c.report_on-report.ensures) (record {
+      tells = record {
+        chosen = chosen;
+        budget = c.requires.budget;
+        mark = true_mark c.in_ok-input.input.problem c.args.budget c.args.choice c.items-items.ensures.bounds chosen c.in_ok-ids.ids;
+      };
+      problem = c.items-items.ensures.bounds;
+      names = c.see_names.ensures;
     })
 
 pub returns-clause-made : goal.returns-clause-made

@@ -1,0 +1,7 @@
+use Rattle.std.proofs.Common.{sym, subst}
+use Rattle.dali_reply.specs.Reply.{HasText}
+use Rattle.dali_reply.proofs.Outcomes.{reported_text}
+use Rattle.dali_cycle_rows.proofs.day.Day.take_line.Goals as goal
+
+pub reply-requires : goal.reply-requires
+reply-requires g c = subst HasText (sym c.outcome.ensures.outcome) (reported_text c.in_ok-ready.ready.outcome c.outcome.ensures.reported)
