@@ -46,7 +46,7 @@ impl Day {
 
     fn take_line(&mut self, rt: &impl Abort, edition: u8, line: &Line) -> Result<(), Fail> {
         assert!(rt; self.state.commands() < 1_000_000);
-        assert!(rt; self.state.cycle_input(rt.alloc(), edition, line)?.is_none());
+        assert!(rt; self.state.cycle_input(self.alloc, edition, line)?.is_none());
         let ready = self.state.prepare(edition, line, None)?;
         let outcome = self.state.commit(ready);
         if !self.answers.is_empty() {
